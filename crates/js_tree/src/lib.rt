@@ -1,0 +1,15 @@
+//! The trees of scripts, how reading refuses a text, and the definitions of the language's texts.
+#![tactic(auto)]
+
+mod count;
+mod expression;
+mod refusal;
+mod statement;
+
+pub use count::nodes;
+pub use expression::{Elements, Expr, ExprForm, Exprs, Field, Fields, LogicOp, StepOp};
+pub use refusal::{Feature, ReadRefused};
+pub use statement::{
+    Case, Cases, Catch, Declarator, Declarators, Finally, ForStart, ForTarget, Func, Funcs, Name,
+    Names, Script, Stmt, StmtForm, Stmts,
+};

@@ -1,0 +1,31 @@
+//! The values of the language as data: strings, whole numbers, primitives, and the lists and boxes that trees are made of.
+#![tactic(auto)]
+
+mod boxed;
+mod memory;
+mod number;
+mod operator;
+mod place;
+mod primitive;
+mod seq;
+mod text;
+mod why;
+
+pub use boxed::Box;
+pub use memory::NoMemory;
+pub use number::{GREATEST_NUMBER, add, negate, push_number, subtract};
+pub use operator::{BinaryOp, UnaryOp};
+pub use place::{FuncNo, Place};
+pub use primitive::{Kind, Primitive};
+pub use seq::Seq;
+pub use text::Text;
+pub use why::Why;
+
+/// A list of bytes.
+pub type Bytes = Seq<u8>;
+
+/// A list of texts.
+pub type Texts = Seq<Text>;
+
+/// A list of primitives.
+pub type Prims = Seq<Primitive>;
