@@ -4,11 +4,13 @@
 mod count;
 mod expression;
 mod refusal;
+mod simple;
 mod statement;
 
 pub use count::nodes;
 pub use expression::{Elements, Expr, ExprForm, Exprs, Field, Fields, LogicOp, StepOp};
 pub use refusal::{Feature, ReadRefused};
+pub use simple::{MOST_TERMS, SimpleToken, TAKEN_WORDS};
 pub use statement::{
     Case, Cases, Catch, Declarator, Declarators, Finally, ForStart, ForTarget, Func, Funcs, Name,
     Names, Script, Stmt, StmtForm, Stmts,

@@ -1,0 +1,4 @@
+pub mod Events
+pub mod Simple
+pub mod Runs
+pub mod Listing
