@@ -1,0 +1,16 @@
+//! The call that does all that the program does.
+#![tactic(auto)]
+
+mod flow;
+mod host;
+mod io;
+mod memory;
+mod report;
+mod words;
+
+pub use flow::{Fetched, SOURCE_LIMIT, fetch, write_text};
+pub use host::{Host, ListHost, Reply};
+pub use io::{Got, Sink, Source, StdSink, StdSource, Wrote};
+pub use memory::{MemorySink, MemorySource};
+pub use report::{Report, Status, tell};
+pub use words::{Command, read_words};
