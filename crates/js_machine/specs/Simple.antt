@@ -37,12 +37,16 @@ arithmetic at operation a b = do
 unfoldable pub name_rule : List ℕ → Run Primitive
 name_rule name = λ heap. or_no_rule (lookup name heap) heap
 
+abbrev pub negation : Place → Primitive → Run Primitive
+negation at a = do
+  x ← to_number at a
+  or_leave at (negated x)
+
 -- 11.4.7
 unfoldable pub minus_rule : Place → Run Primitive → Run Primitive
 minus_rule at a = do
   value ← a
-  n ← to_number at value
-  or_leave at (negated n)
+  negation at value
 
 -- 11.6.1
 unfoldable pub add_rule : Place → Run Primitive → Run Primitive → Run Primitive

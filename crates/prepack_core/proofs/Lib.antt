@@ -1,2 +1,6 @@
 pub mod Moves
 pub mod Pieces
+pub mod Bindings
+pub mod Evaluating
+pub mod Sums
+pub mod Safe

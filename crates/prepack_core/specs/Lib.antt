@@ -5,3 +5,5 @@ pub mod Fetch
 pub mod Hosts
 pub mod Words
 pub mod Report
+pub mod Values
+pub mod Evaluates

@@ -1,16 +1,22 @@
 //! The call that does all that the program does.
 #![tactic(auto)]
 
+mod evaluate;
 mod flow;
 mod host;
 mod io;
 mod memory;
 mod report;
+mod value;
+mod variables;
 mod words;
 
+pub use evaluate::Departure;
 pub use flow::{Fetched, SOURCE_LIMIT, fetch, write_text};
 pub use host::{Host, ListHost, Reply};
 pub use io::{Got, Sink, Source, StdSink, StdSource, Wrote};
 pub use memory::{MemorySink, MemorySource};
 pub use report::{Report, Status, tell};
+pub use value::{Number, Value};
+pub use variables::Variables;
 pub use words::{Command, read_words};
