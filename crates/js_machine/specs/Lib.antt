@@ -2,3 +2,4 @@ pub mod Events
 pub mod Simple
 pub mod Runs
 pub mod Listing
+pub mod Readable

@@ -1,3 +1,25 @@
 //! What a script does: its run in a world, step by step, the listing of the heap that it leaves, and when two runs agree.
 //! The definitions stand in `specs/`, and the crates that run or transform scripts are proved against them.
 #![tactic(auto)]
+
+ghost use Rattle.std.specs.Prelude.{◌≡◌, ℕ, List, [], Ok, IsTrue};
+ghost use Rattle.std.specs.List.{IsDistinct};
+ghost use Rattle.std.specs.Map.{keys_of};
+ghost use Rattle.std.specs.Str.{bytes_eq};
+ghost use Rattle.js_value.specs.declared.primitive.Primitive.{Primitive};
+ghost use Rattle.js_tree.specs.declared.statement.Script.{Script};
+ghost use Rattle.js_tree.specs.Residual.{is_residual, IsFresh, snapshot};
+ghost use Rattle.js_tree.specs.Simple.{reads};
+ghost use Rattle.js_tree.specs.Text.{script_text};
+ghost use Rattle.js_tree.specs.Count.{nodes};
+ghost use Rattle.js_machine.specs.Runs.{World, Ended, Normal, plain};
+ghost use Rattle.js_machine.specs.Readable.{is_readable, placed};
+
+/// The residual of readable variables reads back, is in residual form, and rebuilds them: a law, with nothing to run.
+pub fn snapshot_law()
+    ensures reads_back { (vs : List (List ℕ × Primitive)) (limit : ℕ) → IsTrue (is_readable vs) → reads (script_text (snapshot vs)) limit ≡ Ok (placed vs) }
+    ensures residual { (vs : List (List ℕ × Primitive)) → IsTrue (is_residual (placed vs)) }
+    ensures fresh { (vs : List (List ℕ × Primitive)) (s : Script) → IsFresh (placed vs) s }
+    ensures same_text { (vs : List (List ℕ × Primitive)) → IsTrue (is_readable vs) → script_text (placed vs) ≡ script_text (snapshot vs) }
+    ensures rebuilds { (vs : List (List ℕ × Primitive)) (w : World) → IsTrue (is_readable vs) → IsDistinct bytes_eq (keys_of vs) → plain (placed vs) w (nodes (placed vs)) ≡ Ended [] Normal vs }
+{}

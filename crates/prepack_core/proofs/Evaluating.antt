@@ -1,6 +1,6 @@
 -- Evaluations, put together.
 use Rattle.std.proofs.Common.{◌≡◌, ℕ, ◌+◌, suc, List, [], ◌∷◌, ◌++◌, refl, ap, sym, ◌∙◌, arith, add_assoc, add-zero, zero-add, subst, true}
-use Rattle.std.specs.Prelude.{Result, Ok, Err, Some}
+use Rattle.std.specs.Prelude.{Option, Some, None, Result, Ok, Err}
 use Rattle.js_value.specs.Numbers.{added, subtracted, negated}
 use Rattle.js_value.specs.declared.place.Place.{Place}
 use Rattle.js_value.specs.declared.primitive.Primitive.{Primitive}
@@ -13,10 +13,10 @@ use Rattle.js_tree.specs.declared.expression.Expr.{Expr}
 use Rattle.js_tree.specs.declared.expression.ExprForm.{ExprForm}
 use Rattle.js_tree.specs.declared.expression.ExprForm.TheVariants as form
 use Rattle.js_tree.specs.declared.expression.ExprForm.TheOpen.{ExprForm-F}
-use Rattle.js_tree.specs.Count.{in_expr, in_form, of_form, of_field, of_expr}
+use Rattle.js_tree.specs.Count.{in_expr, in_form, in_maybe, of_form, of_field, of_expr}
 use Rattle.js_tree.proofs.Folds.{fold-of_expr, fold-Literal, fold-Name, fold-Unary, fold-Binary}
-use Rattle.js_machine.specs.Events.{Heap, Tree, Step, Run, ◌>>=◌, step, give, lookup, or_no_rule}
-use Rattle.js_machine.specs.Simple.{evaluation, minus_rule, add_rule, subtract_rule, name_rule, negation, arithmetic, form_rule, expr_rule}
+use Rattle.js_machine.specs.Events.{Heap, Tree, Step, Run, ◌>>=◌, step, give, lookup, put, change, or_no_rule}
+use Rattle.js_machine.specs.Simple.{evaluation, minus_rule, add_rule, subtract_rule, name_rule, negation, arithmetic, form_rule, expr_rule, declarator_rule}
 use Rattle.js_machine.specs.Runs.{walk, Left}
 use Rattle.prepack_core.specs.declared.value.Value.{Value}
 use Rattle.prepack_core.specs.declared.evaluate.Departure.{Departure}
@@ -163,3 +163,24 @@ module _ (f : ExprForm) (op : BinaryOp) (a b : Expr) (at : Place) (h : Heap) (sa
   binary_comes v w r x y z =
       binary_by r (comes_after (evaluation a) second h (in_expr a) (in_expr b) v r x
       (comes_same _ _ h (in_expr b + 0) (in_expr b) r refl (sym (add-zero (in_expr b))) (comes_after (evaluation b) (λ u. arithmetic at (combined op) (primitive_of v) u) h (in_expr b) 0 w r y z)))
+
+-- ---- declarators
+
+pub declarator_without : (name : List ℕ) (init : Option Expr) (h : Heap) → init ≡ None → Gives (declarator_rule name init) h (in_maybe init) tt h
+unfolding declarator_rule
+declarator_without name init h none = rw none (record { goes = λ k n. ap (λ m. walk m (k tt h)) (zero-add n) })
+
+gives_change : (f : Heap → Heap) (h : Heap) → Gives (change f) h 0 tt (f h)
+gives_change f h = record { goes = λ k n. ap (λ m. walk m (k tt (f h))) (zero-add n) }
+
+pub declarator_departs : (name : List ℕ) (init : Option Expr) (e : Expr) (h : Heap) (d : Departure) → init ≡ Some e → Comes (evaluation e) h (in_expr e) (Err d) → Departs (declarator_rule name init) h (in_maybe init) d
+unfolding declarator_rule
+declarator_departs name init e h d some x =
+    rw some (subst (λ (n : ℕ). Departs (declarator_rule name (Some e)) h n d) (add-zero (in_expr e)) (departs_first (evaluation e) (λ v. change (put name v)) h (in_expr e) 0 d x))
+
+pub declarator_runs : (name : List ℕ) (init : Option Expr) (e : Expr) (h : Heap) (v : Value) → init ≡ Some e → Comes (evaluation e) h (in_expr e) (Ok v)
+    → Gives (declarator_rule name init) h (in_maybe init) tt (put name (primitive_of v) h)
+unfolding declarator_rule
+declarator_runs name init e h v some x =
+    rw some (subst (λ (n : ℕ). Gives (declarator_rule name (Some e)) h n tt (put name (primitive_of v) h)) (add-zero (in_expr e))
+    (gives_after (evaluation e) (λ w. change (put name w)) h h (put name (primitive_of v) h) (in_expr e) 0 (primitive_of v) tt x (gives_change (put name (primitive_of v)) h)))

@@ -4,3 +4,5 @@ pub mod Bindings
 pub mod Evaluating
 pub mod Sums
 pub mod Safe
+pub mod Bound
+pub mod Turns

@@ -1,6 +1,6 @@
 -- What it means that code runs a part of a script, whatever comes after it.
-use Rattle.std.specs.Prelude.{◌≡◌, ℕ, ◌+◌, Result, Ok, Err, Bool, true, false, List, [], Option, Some, None, is_some, ℤ}
-use Rattle.std.specs.List.{list_all}
+use Rattle.std.specs.Prelude.{◌≡◌, ℕ, ◌+◌, ◌≤◌, Result, Ok, Err, Bool, true, false, List, [], Option, Some, None, is_some, ℤ, fold}
+use Rattle.std.specs.List.{list_all, flat_map}
 use Rattle.js_value.specs.Numbers.{added, subtracted}
 use Rattle.js_value.specs.declared.operator.BinaryOp.{BinaryOp}
 use Rattle.js_value.specs.declared.operator.BinaryOp.TheVariants as binary
@@ -9,15 +9,20 @@ use Rattle.js_value.specs.declared.primitive.Primitive.{Primitive}
 use Rattle.js_value.specs.declared.why.Why.{Why}
 use Rattle.js_tree.specs.declared.expression.ExprForm.{ExprForm, fold-ExprForm}
 use Rattle.js_tree.specs.SimpleScripts.{Sum, NoSum, sum_form}
-use Rattle.js_machine.specs.Events.{Heap, Tree, Run, lookup}
+use Rattle.js_machine.specs.Events.{Heap, Tree, Run, lookup, declare}
 use Rattle.js_machine.specs.Simple.{form_rule, expr_rule}
-use Rattle.js_machine.specs.Runs.{walk, Left}
-use Rattle.js_tree.specs.Simple.{names_in_form}
+use Rattle.js_machine.specs.Runs.{World, Ended, Left, Normal, walk, plain}
+use Rattle.js_tree.specs.Simple.{names_in_form, names_in_init}
 use Rattle.js_value.specs.declared.why.Why.TheVariants.{NotANumber}
 use Rattle.prepack_core.specs.declared.value.Number.{Number}
 use Rattle.prepack_core.specs.declared.value.Value.{Value}
 use Rattle.prepack_core.specs.declared.value.Value.TheVariants as value
+use Rattle.js_tree.specs.Count.{nodes}
+use Rattle.js_tree.specs.declared.statement.Declarator.{Declarator}
+use Rattle.js_tree.specs.declared.statement.Script.{Script}
 use Rattle.prepack_core.specs.declared.evaluate.Departure.{Departure}
+use Rattle.prepack_core.specs.declared.evaluate.Stop.{Stop}
+use Rattle.prepack_core.specs.declared.evaluate.Stop.TheVariants as stop
 use Rattle.prepack_core.specs.Values.{primitive_of}
 
 -- after so many steps the run goes on with this answer, at this heap
@@ -63,3 +68,30 @@ form_names = fold-ExprForm (List (List ℕ)) (List (List ℕ)) (List (List ℕ))
 abbrev pub IsNumberOf : Value → Place → Result Number Departure → Type 0
 IsNumberOf (value.Number n) at r = r ≡ Ok n
 IsNumberOf value.Undefined at r = r ≡ Err (record { at = at; why = NotANumber })
+
+-- a part of a script runs to its end, or departs; nothing is said where there was no memory
+abbrev pub RunsTo : Run (Unit {0}) → Heap → ℕ → Result (Unit {0}) Stop → Heap → Type 0
+RunsTo m old steps (Ok u) new = Gives m old steps tt new
+RunsTo m old steps (Err (stop.Left d)) new = Departs m old steps d
+RunsTo m old steps (Err stop.NoMemory) new = Unit {0}
+
+-- what is bound before is bound afterwards
+pub record KeepsBound (old new : Heap) : Type 0 where
+  pub keeps : (name : List ℕ) → is_bound old name ≡ true → is_bound new name ≡ true
+
+-- each of these names is bound
+abbrev pub are_bound : Heap → List (List ℕ) → Bool
+are_bound heap names = list_all (is_bound heap) names
+
+abbrev pub names_in_declarators : List Declarator → List (List ℕ)
+names_in_declarators ds = flat_map (λ (d : Declarator). names_in_init d.init) ds
+
+-- 10.5: these names declared after those that are bound
+abbrev pub declared_after : Heap → List (List ℕ) → Heap
+declared_after heap names = fold (λ h name. declare name h) heap names
+
+-- With a budget for each of its nodes, a script ends in every world with these variables, or departs.
+abbrev pub Evaluates : Script → Result Heap Stop → Type 0
+Evaluates s (Ok heap) = (w : World) (n : ℕ) → nodes s ≤ n → plain s w n ≡ Ended [] Normal heap
+Evaluates s (Err (stop.Left d)) = (w : World) (n : ℕ) → nodes s ≤ n → plain s w n ≡ Left d.why d.at
+Evaluates s (Err stop.NoMemory) = Unit {0}

@@ -1,25 +1,51 @@
 //! Runs a simple script.
 
-ghost use Rattle.std.specs.Prelude.{◌≡◌, IsTrue};
-ghost use Rattle.std.specs.List.{list_all};
+ghost use Rattle.std.specs.Prelude.{◌≡◌, [], ◌∷◌, IsTrue, IfOk, OnOk};
+ghost use Rattle.std.specs.List.{list_all, flat_map};
 ghost use Rattle.js_tree.specs.Count as count;
-ghost use Rattle.js_tree.specs.Simple.{names_in, names_in_form};
-ghost use Rattle.js_tree.specs.SimpleScripts.{sum_in};
+ghost use Rattle.js_tree.specs.Simple.{names_in, names_in_init, declarators_in, declared_names};
+ghost use Rattle.js_tree.specs.SimpleScripts.{sum_in, is_simple_declarator, is_simple_statement, is_simple};
+ghost use Rattle.js_tree.specs.declared.statement.StmtForm.{out-StmtForm};
 ghost use Rattle.js_machine.specs.Events.{Heap};
-ghost use Rattle.js_machine.specs.Simple.{evaluation, negation, arithmetic};
+ghost use Rattle.js_machine.specs.Simple.{evaluation, negation, arithmetic, declarator_rule, declarators_rule, statement as run_of_statement, declared};
 ghost use Rattle.prepack_core.specs.Evaluates as spec;
 ghost use Rattle.prepack_core.specs.Values.{primitive_of};
+ghost use Rattle.prepack_core.specs.declared.evaluate.Stop.TheVariants.{Left, NoMemory as OutOfMemory};
 
 use crate::value::{Number, Value};
 use crate::variables::Variables;
-use js_tree::{Expr, ExprForm};
-use js_value::{BinaryOp, Place, Primitive, Why, add, negate, subtract};
+use js_tree::{Declarator, Expr, ExprForm, Script, Stmt, StmtForm};
+use js_value::{BinaryOp, NoMemory, Place, Primitive, Why, add, negate, subtract};
+use std::alloc::Global;
 
 /// Where and why a run leaves the profile.
 #[derive(Clone, Copy, Debug, PartialEq, Eq)]
 pub struct Departure {
     pub at: Place,
     pub why: Why,
+}
+
+/// Why a run doesn't come to its end.
+#[derive(Clone, Copy, Debug, PartialEq, Eq)]
+pub enum Stop {
+    Left(Departure),
+    NoMemory,
+}
+
+impl From<Departure> for Stop {
+    ghost from_gives = { λ d s. s ≡ Left d };
+
+    fn from(departure: Departure) -> Stop {
+        Stop::Left(departure)
+    }
+}
+
+impl From<NoMemory> for Stop {
+    ghost from_gives = { λ _ s. s ≡ OutOfMemory };
+
+    fn from(_: NoMemory) -> Stop {
+        Stop::NoMemory
+    }
 }
 
 /// The number of an operand.
@@ -100,4 +126,88 @@ fn value_of_form(form: &ExprForm, at: Place, variables: &Variables) -> Result<Va
         }
         _ => unreachable!(),
     }
+}
+
+/// Assigns the value of an initialiser, where there is one (12.2).
+fn run_declarator(alloc: Global, declarator: &Declarator, variables: &mut Variables) -> Result<(), Stop>
+    requires simple { IsTrue (is_simple_declarator declarator.now) }
+    requires bound { IsTrue (spec.are_bound variables.old (names_in_init declarator.now.init)) }
+    ensures runs { spec.RunsTo (declarator_rule declarator.now.name declarator.now.init) variables.old (count.in_maybe declarator.now.init) result variables.new }
+    ensures bound { OnOk result (spec.KeepsBound variables.old variables.new) }
+{
+    let Some(init) = &declarator.init else {
+        return Ok(());
+    };
+    let value = value_of(init, variables)?;
+    variables.put(declarator.name.copy(alloc)?, value)?;
+    Ok(())
+}
+
+/// Runs the declarators of one `var` in turn.
+fn run_declarators(alloc: Global, declarators: &[Declarator], variables: &mut Variables) -> Result<(), Stop>
+    requires simple { IsTrue (list_all is_simple_declarator declarators.now) }
+    requires bound { IsTrue (spec.are_bound variables.old (spec.names_in_declarators declarators.now)) }
+    ensures runs { spec.RunsTo (declarators_rule declarators.now) variables.old (count.in_declarators declarators.now) result variables.new }
+    ensures bound { OnOk result (spec.KeepsBound variables.old variables.new) }
+{
+    for declarator in declarators {
+        run_declarator(alloc, declarator, variables)?;
+    }
+    Ok(())
+}
+
+/// The declarators of a statement, which has none where it is no `var`.
+fn declarators_of(statement: &Stmt) -> &[Declarator]
+    ensures { result.now ≡ declarators_in (out-StmtForm statement.now.form) }
+{
+    match &*statement.form {
+        StmtForm::Var(declarators) => declarators.as_slice(),
+        _ => &[],
+    }
+}
+
+/// Runs a statement, which is a `var`.
+fn run_statement(alloc: Global, statement: &Stmt, variables: &mut Variables) -> Result<(), Stop>
+    requires simple { IsTrue (is_simple_statement statement.now) }
+    requires bound { IsTrue (spec.are_bound variables.old (spec.names_in_declarators (declarators_in (out-StmtForm statement.now.form)))) }
+    ensures runs { spec.RunsTo (run_of_statement statement.now) variables.old (count.in_stmt statement.now) result variables.new }
+    ensures bound { OnOk result (spec.KeepsBound variables.old variables.new) }
+{
+    run_declarators(alloc, declarators_of(statement), variables)
+}
+
+/// Binds the names of some declarators that aren't bound yet to undefined.
+fn declare_names(alloc: Global, declarators: &[Declarator], variables: &mut Variables) -> Result<(), NoMemory>
+    requires { IsTrue (list_all is_simple_declarator declarators.now) }
+    ensures { OnOk result (variables.new ≡ spec.declared_after variables.old (flat_map (λ d. d.name ∷ []) declarators.now)) }
+{
+    for declarator in declarators {
+        variables.declare(alloc, &declarator.name)?;
+    }
+    Ok(())
+}
+
+/// The names that a script declares, bound to undefined in the order of their first declarations (10.5).
+fn declared_variables(alloc: Global, body: &[Stmt]) -> Result<Variables, NoMemory>
+    requires { IsTrue (list_all is_simple_statement body.now) }
+    ensures { IfOk result (λ variables. variables ≡ declared (declared_names body.now)) }
+{
+    let mut variables = Variables::new(alloc);
+    for statement in body {
+        declare_names(alloc, declarators_of(statement), &mut variables)?;
+    }
+    Ok(variables)
+}
+
+/// The variables that a simple script leaves, or where and why its run leaves the profile.
+pub fn evaluate(alloc: Global, script: &Script) -> Result<Variables, Stop>
+    requires { IsTrue (is_simple script.now) }
+    ensures { spec.Evaluates script.now result }
+{
+    let body = script.body.as_slice();
+    let mut variables = declared_variables(alloc, body)?;
+    for statement in body {
+        run_statement(alloc, statement, &mut variables)?;
+    }
+    Ok(variables)
 }

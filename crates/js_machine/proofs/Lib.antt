@@ -1,0 +1,5 @@
+pub mod Forms
+pub mod Texts
+pub mod Lexing
+pub mod Reading
+pub mod Running
