@@ -13,15 +13,24 @@ use Rattle.js_tree.specs.declared.expression.Expr.{Expr}
 use Rattle.js_tree.specs.declared.expression.ExprForm.{ExprForm}
 use Rattle.js_tree.specs.declared.expression.ExprForm.TheVariants as form
 use Rattle.js_tree.specs.declared.expression.ExprForm.TheOpen.{ExprForm-F}
-use Rattle.js_tree.specs.Count.{in_expr, in_form, in_maybe, of_form, of_field, of_expr}
+use Rattle.js_tree.specs.Count.{in_expr, in_form, in_maybe, in_declarators, in_stmt, of_form, of_field, of_expr}
 use Rattle.js_tree.proofs.Folds.{fold-of_expr, fold-Literal, fold-Name, fold-Unary, fold-Binary}
+use Rattle.js_tree.proofs.Statements.{in_stmt-simple}
+use Rattle.js_tree.specs.Simple.{declarators_in}
+use Rattle.js_tree.specs.SimpleScripts.{is_simple_form, is_simple_statement}
+use Rattle.js_tree.specs.declared.statement.Declarator.{Declarator}
+use Rattle.js_tree.specs.declared.statement.Stmt.{Stmt}
+use Rattle.js_tree.specs.declared.statement.StmtForm.{out-StmtForm}
+use Rattle.js_tree.specs.declared.statement.StmtForm.TheOpen.{StmtForm-F}
 use Rattle.js_machine.specs.Events.{Heap, Tree, Step, Run, ◌>>=◌, step, give, lookup, put, change, or_no_rule}
-use Rattle.js_machine.specs.Simple.{evaluation, minus_rule, add_rule, subtract_rule, name_rule, negation, arithmetic, form_rule, expr_rule, declarator_rule}
+use Rattle.js_machine.specs.Simple.{evaluation, minus_rule, add_rule, subtract_rule, name_rule, negation, arithmetic, form_rule, expr_rule, declarator_rule, declarators_rule, statement_rule, statement}
 use Rattle.js_machine.specs.Runs.{walk, Left}
 use Rattle.prepack_core.specs.declared.value.Value.{Value}
 use Rattle.prepack_core.specs.declared.evaluate.Departure.{Departure}
+use Rattle.prepack_core.specs.declared.evaluate.Stop.{Stop}
+use Rattle.prepack_core.specs.declared.evaluate.Stop.TheVariants as stop
 use Rattle.prepack_core.specs.Values.{primitive_of}
-use Rattle.prepack_core.specs.Evaluates.{Gives, Departs, Comes, form_evaluation, is_additive, combined}
+use Rattle.prepack_core.specs.Evaluates.{Gives, Departs, Comes, RunsTo, form_evaluation, is_additive, combined}
 
 walk-step : (s n : ℕ) (at : Place) (t : Tree) → walk (s + 1 + n) (Step at t) ≡ walk (s + n) t
 walk-step s n at t = let e : s + 1 + n ≡ suc (s + n) = omega arith in ap (λ m. walk m (Step at t)) e
@@ -184,3 +193,17 @@ unfolding declarator_rule
 declarator_runs name init e h v some x =
     rw some (subst (λ (n : ℕ). Gives (declarator_rule name (Some e)) h n tt (put name (primitive_of v) h)) (add-zero (in_expr e))
     (gives_after (evaluation e) (λ w. change (put name w)) h h (put name (primitive_of v) h) (in_expr e) 0 (primitive_of v) tt x (gives_change (put name (primitive_of v)) h)))
+
+-- ---- statements
+
+simple_rule : {A B C D E : Type 0} (l : StmtForm-F A B C D E) → is_simple_form l ≡ true → statement_rule l ≡ declarators_rule (declarators_in l)
+simple_rule (StmtForm-F.Var ds) h = refl
+simple_rule l h = cc
+
+pub statement_runs : (s : Stmt) (ds : List Declarator) (h g : Heap) (r : Result (Unit {0}) Stop) → is_simple_statement s ≡ true → ds ≡ declarators_in (out-StmtForm s.form) → RunsTo (declarators_rule ds) h (in_declarators ds) r g
+    → RunsTo (statement s) h (in_stmt s) r g
+statement_runs s ds h g (Ok u) simple is x =
+    rw (in_stmt-simple s simple, simple_rule (out-StmtForm s.form) simple, ← is) (gives_step s.at (declarators_rule ds) h g (in_declarators ds) tt x)
+statement_runs s ds h g (Err (stop.Left d)) simple is x =
+    rw (in_stmt-simple s simple, simple_rule (out-StmtForm s.form) simple, ← is) (departs_step s.at (declarators_rule ds) h (in_declarators ds) d x)
+statement_runs s ds h g (Err stop.NoMemory) simple is x = tt

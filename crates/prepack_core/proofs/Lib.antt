@@ -6,3 +6,4 @@ pub mod Sums
 pub mod Safe
 pub mod Bound
 pub mod Turns
+pub mod Scripts

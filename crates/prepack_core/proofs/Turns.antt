@@ -1,6 +1,6 @@
 -- A list of parts of a script, run in turn.
 use Rattle.std.proofs.Common.{◌≡◌, ℕ, ◌+◌, ◌<◌, ◌≤◌, suc, Bool, true, List, [], ◌∷◌, ◌++◌, length, take, drop, get_or, map, sum, refl, ap, sym, ◌∙◌, subst, arith, add_assoc, add-one, zero-add}
-use Rattle.std.specs.Prelude.{◌&&◌}
+use Rattle.std.specs.Prelude.{◌&&◌, Err}
 use Rattle.std.specs.List.{list_all, flat_map, AllPass}
 use Rattle.std.proofs.lemmas.List.Sums.{sum_by-cons, AllPass-from_list_all}
 use Rattle.std.proofs.lemmas.List.Folds.{list_all-append}
@@ -10,7 +10,9 @@ use Rattle.js_machine.specs.Events.{Heap, Tree, Run}
 use Rattle.js_machine.specs.Simple.{in_turn}
 use Rattle.js_machine.specs.Runs.{walk, Left}
 use Rattle.prepack_core.specs.declared.evaluate.Departure.{Departure}
-use Rattle.prepack_core.specs.Evaluates.{Gives, Departs}
+use Rattle.prepack_core.specs.declared.evaluate.Stop.{Stop}
+use Rattle.prepack_core.specs.declared.evaluate.Stop.TheVariants as stop
+use Rattle.prepack_core.specs.Evaluates.{Gives, Departs, RunsTo}
 
 -- what is left of a list runs as the whole list did
 pub record Remains {A : Type 0} (f : A → Run (Unit {0})) (count : A → ℕ) (xs : List A) (start : Heap) (i : ℕ) (heap : Heap) : Type 0 where
@@ -38,11 +40,17 @@ module _ {A : Type 0} (f : A → Run (Unit {0})) (count : A → ℕ) (xs : List 
     same = λ k n. r.same k n ∙ (first_turn i h x k n below is ∙ y.goes (λ _ w. in_turn f (drop (i + 1) xs) w k) (sum (map count (drop (i + 1) xs)) + n));
   }
 
-  pub remains_departs : (start : Heap) (i : ℕ) (h : Heap) (x : A) (d : Departure) → i < length xs → x ≡ get_or xs i x → Remains f count xs start i h → Departs (f x) h (count x) d
+  remains_departs : (start : Heap) (i : ℕ) (h : Heap) (x : A) (d : Departure) → i < length xs → x ≡ get_or xs i x → Remains f count xs start i h → Departs (f x) h (count x) d
       → Departs (in_turn f xs) start (sum (map count xs)) d
   remains_departs start i h x d below is r y = record {
     leaves = λ k n. r.same k n ∙ (first_turn i h x k n below is ∙ y.leaves (λ _ w. in_turn f (drop (i + 1) xs) w k) (sum (map count (drop (i + 1) xs)) + n));
   }
+
+  -- the same of a stop, which says nothing where there was no memory
+  pub remains_stops : (start : Heap) (i : ℕ) (h g1 g2 : Heap) (x : A) (s : Stop) → i < length xs → x ≡ get_or xs i x → Remains f count xs start i h → RunsTo (f x) h (count x) (Err s) g1
+      → RunsTo (in_turn f xs) start (sum (map count xs)) (Err s) g2
+  remains_stops start i h g1 g2 x (stop.Left d) below is r y = remains_departs start i h x d below is r y
+  remains_stops start i h g1 g2 x stop.NoMemory below is r y = tt
 
   pub remains_none : (start h : Heap) (i : ℕ) → length xs ≤ i → Remains f count xs start i h → Gives (in_turn f xs) start (sum (map count xs)) tt h
   remains_none start h i all r = record {
