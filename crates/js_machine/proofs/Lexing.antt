@@ -184,7 +184,7 @@ no_leading_zero (suc n) small =
     and_left (slice_index (decimal (suc n)) 0 == 48) (nat_lt 1 (length (decimal (suc n)))) other
 
 -- the decimal text of a number that is not too great is a literal
-IsLiteral-decimal : (n : ℕ) → n ≤ greatest_literal → IsLiteral n (decimal n)
+pub IsLiteral-decimal : (n : ℕ) → n ≤ greatest_literal → IsLiteral n (decimal n)
 IsLiteral-decimal n small =
     let low : n < 2 ^ 64 = omega arith in
     let is = decimal_is_IsNumeral n low in
@@ -292,7 +292,7 @@ safe_pos n safe =
     leb-true n greatest_literal high
 
 -- a negative number of the profile is not too small for a negated literal
-safe_negsuc : (n : ℕ) → is_safe (negsuc n) ≡ true → suc n ≤ greatest_literal
+pub safe_negsuc : (n : ℕ) → is_safe (negsuc n) ≡ true → suc n ≤ greatest_literal
 safe_negsuc n safe =
     let low = (and_parts (int_le (neg_ℤ greatest) (negsuc n)) (int_le (negsuc n) greatest) safe).0 in
     let le : n ≤ 9007199254740990 = leb-true n 9007199254740990 low in
@@ -304,7 +304,7 @@ first_digit n [] rest is = absurd (omega arith)
 first_digit n (c ∷ ds) rest is = (and_parts (is_ascii_digit c) (list_all is_ascii_digit ds) is.all).0
 
 -- a literal follows a sign without a space
-behind_sign-literal : (n : ℕ) (ds : List ℕ) → IsLiteral n ds → behind_sign ds ≡ ds
+pub behind_sign-literal : (n : ℕ) (ds : List ℕ) → IsLiteral n ds → behind_sign ds ≡ ds
 behind_sign-literal n [] is = absurd (omega arith)
 behind_sign-literal n (c ∷ ds) is =
     cond-false (is_sign c) (32 ∷ c ∷ ds) (c ∷ ds) (digit_no_sign c (and_parts (is_ascii_digit c) (list_all is_ascii_digit ds) is.all).0)

@@ -3,3 +3,4 @@ pub mod Texts
 pub mod Lexing
 pub mod Reading
 pub mod Running
+pub mod Spelled

@@ -58,7 +58,7 @@ declarator_text-same at v readable =
     ap (λ text. v.0 ++ text) (init_text-constant_at _ v.1 ∙ sym (init_text-constant v.1 plain))
 
 -- declarators that each follow a comma
-abbrev behind_commas : List Declarator → List ℕ
+abbrev pub behind_commas : List Declarator → List ℕ
 behind_commas ds = flat_map (λ (e : Declarator). codes ", " ++ declarator_text e) ds
 
 -- places do not show behind commas either

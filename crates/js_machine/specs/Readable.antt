@@ -1,6 +1,7 @@
 -- Variables that can be written and read again, and the script that their text gives.
-use Rattle.std.specs.Prelude.{ℕ, suc, ◌+◌, Bool, ◌&&◌, List, [], ◌∷◌, length, Option, Some, None, pos, negsuc, true, false}
-use Rattle.std.specs.List.{list_all}
+use Rattle.std.specs.Prelude.{ℕ, suc, ◌+◌, Bool, ◌&&◌, List, [], ◌∷◌, ◌++◌, codes, length, Option, Some, None, pos, negsuc, true, false}
+use Rattle.std.specs.List.{list_all, flat_map}
+use Rattle.std.specs.Fmt.{signed_decimal}
 use Rattle.js_value.specs.Numbers.{is_safe}
 use Rattle.js_value.specs.declared.primitive.Primitive.{Primitive}
 use Rattle.js_value.specs.declared.primitive.Primitive.TheVariants as primitive
@@ -25,6 +26,30 @@ is_readable_variable v = is_simple_name v.0 && is_plain_value v.1
 -- simple names, each with undefined or a number of the profile
 abbrev pub is_readable : List (List ℕ × Primitive) → Bool
 is_readable vs = list_all is_readable_variable vs
+
+-- ---- the text of their residual
+
+-- ` = ` and the literal of a value; nothing for undefined
+abbrev pub value_text : Primitive → List ℕ
+value_text (primitive.Number n) = codes " = " ++ signed_decimal n
+value_text _ = []
+
+abbrev pub variable_text : List ℕ × Primitive → List ℕ
+variable_text v = v.0 ++ value_text v.1
+
+-- `var ` and the variables with `, ` between, without the end of the statement
+abbrev pub listed : List (List ℕ × Primitive) → List ℕ
+listed [] = []
+listed (v ∷ vs) = codes "var " ++ variable_text v ++ flat_map (λ w. codes ", " ++ variable_text w) vs
+
+abbrev pub end_of : List (List ℕ × Primitive) → List ℕ
+end_of [] = []
+end_of (v ∷ vs) = codes ";\n"
+
+abbrev pub variables_text : List (List ℕ × Primitive) → List ℕ
+variables_text vs = listed vs ++ end_of vs
+
+-- ---- their residual with its places
 
 -- the literal whose text lies at a place, as a constant of a residual; none for undefined
 abbrev pub constant_at : ℕ → Primitive → Option Expr

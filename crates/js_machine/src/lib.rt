@@ -13,11 +13,12 @@ ghost use Rattle.js_tree.specs.Simple.{reads};
 ghost use Rattle.js_tree.specs.Text.{script_text};
 ghost use Rattle.js_tree.specs.Count.{nodes};
 ghost use Rattle.js_machine.specs.Runs.{World, Ended, Normal, plain};
-ghost use Rattle.js_machine.specs.Readable.{is_readable, placed};
+ghost use Rattle.js_machine.specs.Readable.{is_readable, placed, variables_text};
 
 /// The residual of readable variables reads back, is in residual form, and rebuilds them: a law, with nothing to run.
 pub fn snapshot_law()
     ensures reads_back { (vs : List (List ℕ × Primitive)) (limit : ℕ) → IsTrue (is_readable vs) → reads (script_text (snapshot vs)) limit ≡ Ok (placed vs) }
+    ensures spelled { (vs : List (List ℕ × Primitive)) → IsTrue (is_readable vs) → script_text (snapshot vs) ≡ variables_text vs }
     ensures residual { (vs : List (List ℕ × Primitive)) → IsTrue (is_residual (placed vs)) }
     ensures fresh { (vs : List (List ℕ × Primitive)) (s : Script) → IsFresh (placed vs) s }
     ensures same_text { (vs : List (List ℕ × Primitive)) → IsTrue (is_readable vs) → script_text (placed vs) ≡ script_text (snapshot vs) }

@@ -1,13 +1,19 @@
 -- Variables in a map as the properties of the global object.
 use Rattle.std.proofs.Common.{◌≡◌, ℕ, Bool, true, false, cond, List, [], ◌∷◌, refl, ap, sym, ◌∙◌, IsTrue}
-use Rattle.std.specs.Prelude.{Option, Some, None, ◌&&◌}
+use Rattle.std.specs.Prelude.{Option, Some, None, ◌&&◌, slice_get}
 use Rattle.std.specs.Option.{option_map}
 use Rattle.std.specs.List.{list_all}
-use Rattle.std.specs.Map.{lookup as entry_of}
+use Rattle.std.specs.Map.{lookup as entry_of, keys_of}
+use Rattle.std.proofs.lemmas.Bool.{and_parts, and_from}
+use Rattle.std.proofs.lemmas.Option.{get_or_from_slice_get, slice_get_within}
+use Rattle.std.proofs.lemmas.List.Sums.{AllPass-from_list_all}
+use Rattle.js_tree.specs.SimpleTokens.{is_simple_name}
+use Rattle.js_machine.specs.Readable.{is_plain_value, is_readable, is_readable_variable}
 use Rattle.std.specs.Str.{bytes_eq}
 use Rattle.indexmap.specs.IndexMap.{insert_entry}
 use Rattle.js_machine.specs.Events.{Heap, lookup, put}
 use Rattle.prepack_core.specs.declared.value.Value.{Value}
+use Rattle.prepack_core.specs.declared.value.Value.TheVariants as value
 use Rattle.prepack_core.specs.Values.{primitive_of, shown}
 
 abbrev Entries : Type 0
@@ -35,3 +41,22 @@ all-insert p (e ∷ es) name v n h =
     kept : (a b c : Bool) → (a && b) ≡ true → (b ≡ true → c ≡ true) → (a && c) ≡ true
     kept true b c h f = f h
     kept false b c h f = h
+
+plain_value : (v : Value) → is_plain_value (primitive_of v) ≡ true
+plain_value value.Undefined = refl
+plain_value (value.Number n) = n.in_range
+
+-- variables with simple names can be written and read again
+pub shown-readable : (es : Entries) → list_all (λ e. is_simple_name e.0) es ≡ true → is_readable (shown es) ≡ true
+shown-readable [] h = refl
+shown-readable (e ∷ es) h =
+    let parts = and_parts (is_simple_name e.0) (list_all (λ d. is_simple_name d.0) es) h in
+    and_from (is_readable_variable (e.0, primitive_of e.1)) (is_readable (shown es)) (and_from (is_simple_name e.0) (is_plain_value (primitive_of e.1)) parts.0 (plain_value e.1)) (shown-readable es parts.1)
+
+pub keys-shown : (es : Entries) → keys_of (shown es) ≡ keys_of es
+keys-shown [] = refl
+keys-shown (e ∷ es) = ap (λ ks. e.0 ∷ ks) (keys-shown es)
+
+-- what passes for all passes for the one at a place
+pub all-at : {X : Type 0} (p : X → Bool) (xs : List X) (i : ℕ) (x : X) → list_all p xs ≡ true → slice_get xs i ≡ Some x → p x ≡ true
+all-at p xs i x h at = ap p (sym (get_or_from_slice_get xs i x x at)) ∙ AllPass-from_list_all p xs h i x (slice_get_within xs i x at)

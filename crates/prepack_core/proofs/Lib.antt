@@ -7,3 +7,4 @@ pub mod Safe
 pub mod Bound
 pub mod Turns
 pub mod Scripts
+pub mod Listed

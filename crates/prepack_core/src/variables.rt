@@ -1,7 +1,11 @@
-ghost use Rattle.std.specs.Prelude.{◌≡◌, [], length, IsTrue, OnOk};
+ghost use Rattle.std.specs.Prelude.{◌≡◌, [], length, slice_get, IsTrue, IfSome, OnOk};
+ghost use Rattle.std.specs.List.{IsDistinct};
+ghost use Rattle.std.specs.Map.{keys_of};
+ghost use Rattle.std.specs.Str.{bytes_eq};
 ghost use Rattle.std.specs.Option.{option_map};
 ghost use Rattle.js_tree.specs.SimpleTokens.{is_simple_name};
 ghost use Rattle.js_machine.specs.Events as machine;
+ghost use Rattle.js_machine.specs.Readable.{is_readable};
 ghost use Rattle.prepack_core.specs.Values.{primitive_of};
 
 use crate::value::Value;
@@ -65,5 +69,23 @@ impl Variables {
             self.put(name.copy(alloc)?, Value::Undefined)?;
         }
         Ok(())
+    }
+
+    /// How many variables there are. Each can be written in a script and read again, and no name stands twice.
+    pub fn len(&self) -> usize
+        ensures count { result ≡ length self.now }
+        ensures readable { IsTrue (is_readable self.now) }
+        ensures distinct { IsDistinct bytes_eq (keys_of self.now) }
+    {
+        self.map.len()
+    }
+
+    /// The variable at a position, in the order of creation.
+    pub fn at(&self, i: usize) -> Option<(&Text, Value)>
+        ensures entry { option_map (λ v. (v.0.now, primitive_of v.1)) result ≡ slice_get self.now i }
+        ensures simple { IfSome result (λ v. IsTrue (is_simple_name v.0.now)) }
+    {
+        let (name, value) = self.map.as_slice().get_index(i)?;
+        Some((name, *value))
     }
 }

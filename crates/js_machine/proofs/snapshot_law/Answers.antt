@@ -1,6 +1,7 @@
 use Rattle.js_machine.proofs.Reading.{reads-snapshot, is_residual-placed}
 use Rattle.js_machine.proofs.Running.{plain-placed}
 use Rattle.js_machine.proofs.Texts.{script_text-placed}
+use Rattle.js_machine.proofs.Spelled.{script_text-spelled}
 use Rattle.js_machine.proofs.snapshot_law.Goals as goal
 
 pub returns-clause-reads_back : goal.returns-clause-reads_back
@@ -14,3 +15,6 @@ returns-clause-same_text c = script_text-placed
 
 pub returns-clause-rebuilds : goal.returns-clause-rebuilds
 returns-clause-rebuilds c = plain-placed
+
+pub returns-clause-spelled : goal.returns-clause-spelled
+returns-clause-spelled c = script_text-spelled

@@ -1,0 +1,64 @@
+//! The text of the residual that declares given variables.
+
+ghost use Rattle.std.specs.Prelude.{◌≡◌, ◌+◌, ◌<◌, ◌++◌, length, take, IsTrue, IfOk, OnOk};
+ghost use Rattle.js_tree.specs.SimpleTokens.{is_simple_name};
+ghost use Rattle.js_machine.specs.Readable as spec;
+ghost use Rattle.prepack_core.specs.Values.{primitive_of};
+
+use crate::value::Value;
+use crate::variables::Variables;
+use js_value::{NoMemory, Text, push_number};
+use std::alloc::Global;
+
+/// Puts a name, which is ASCII, behind what is there.
+fn push_name(bytes: &mut Vec<u8>, name: &Text) -> Result<(), NoMemory>
+    requires { IsTrue (is_simple_name name.now) }
+    ensures { OnOk result (bytes.new.items ≡ bytes.old.items ++ name.now) }
+{
+    for unit in name.as_slice() {
+        bytes.push(*unit as u8)?;
+    }
+    Ok(())
+}
+
+/// Puts a declarator behind what is there: a name, and a number where it has one.
+fn push_variable(bytes: &mut Vec<u8>, name: &Text, value: Value) -> Result<(), NoMemory>
+    requires { IsTrue (is_simple_name name.now) }
+    ensures { OnOk result (bytes.new.items ≡ bytes.old.items ++ spec.variable_text (name.now, primitive_of value)) }
+{
+    push_name(bytes, name)?;
+    match value {
+        Value::Undefined => Ok(()),
+        Value::Number(n) => {
+            bytes.extend_from_slice(b" = ")?;
+            push_number(bytes, n.value)
+        }
+    }
+}
+
+/// Puts the variable at a position behind those before it.
+fn push_at(text: &mut Vec<u8>, variables: &Variables, i: usize) -> Result<(), NoMemory>
+    requires within { i < length variables.now }
+    requires before { text.old.items ≡ spec.listed (take i variables.now) }
+    ensures { OnOk result (text.new.items ≡ spec.listed (take (i + 1) variables.now)) }
+{
+    let Some((name, value)) = variables.at(i) else {
+        unreachable!()
+    };
+    text.extend_from_slice(if i == 0 { b"var " } else { b", " })?;
+    push_variable(text, name, value)
+}
+
+/// The text of the residual of variables: one `var` statement, or nothing where there is no variable.
+pub fn residual_text(alloc: Global, variables: &Variables) -> Result<Vec<u8>, NoMemory>
+    ensures { IfOk result (λ text. text.items ≡ spec.variables_text variables.now) }
+{
+    let mut text = Vec::new(alloc);
+    for i in 0..variables.len() {
+        push_at(&mut text, variables, i)?;
+    }
+    if variables.len() > 0 {
+        text.extend_from_slice(b";\n")?;
+    }
+    Ok(text)
+}
