@@ -35,7 +35,8 @@ before-take : (vs : List Variable) (i : ℕ) → i < length vs → before (take 
 unfolding before
 before-take vs zero below = refl
 before-take [] (suc i) below = absurd (omega arith)
-before-take (v ∷ vs) (suc i) below = refl
+before-take (v ∷ vs) (suc i) below =
+    let no : (suc i == 0) ≡ false = grind (arith, nat_tests) in ap (λ b. if b then codes "var " else codes ", ") (sym no)
 
 -- the text of one more variable
 pub listed-more : (vs : List Variable) (i : ℕ) (v : Variable) → slice_get vs i ≡ Some v → (listed (take i vs) ++ (if i == 0 then codes "var " else codes ", ")) ++ variable_text v ≡ listed (take (i + 1) vs)

@@ -1,6 +1,6 @@
 //! The text of the residual that declares given variables.
 
-ghost use Rattle.std.specs.Prelude.{◌≡◌, ◌+◌, ◌<◌, ◌++◌, length, take, IsTrue, IfOk, OnOk};
+ghost use Rattle.std.specs.Prelude.{◌≡◌, ◌==◌, ◌+◌, ◌<◌, ◌++◌, if◌then◌else◌, codes, length, take, IsTrue, IfOk, OnOk};
 ghost use Rattle.js_tree.specs.SimpleTokens.{is_simple_name};
 ghost use Rattle.js_machine.specs.Readable as spec;
 ghost use Rattle.prepack_core.specs.Values.{primitive_of};
@@ -36,6 +36,13 @@ fn push_variable(bytes: &mut Vec<u8>, name: &Text, value: Value) -> Result<(), N
     }
 }
 
+/// What stands before the variable at a position.
+fn separator(i: usize) -> &'static [u8]
+    ensures { result.now ≡ (if i == 0 then codes "var " else codes ", ") }
+{
+    if i == 0 { b"var " } else { b", " }
+}
+
 /// Puts the variable at a position behind those before it.
 fn push_at(text: &mut Vec<u8>, variables: &Variables, i: usize) -> Result<(), NoMemory>
     requires within { i < length variables.now }
@@ -45,7 +52,7 @@ fn push_at(text: &mut Vec<u8>, variables: &Variables, i: usize) -> Result<(), No
     let Some((name, value)) = variables.at(i) else {
         unreachable!()
     };
-    text.extend_from_slice(if i == 0 { b"var " } else { b", " })?;
+    text.extend_from_slice(separator(i))?;
     push_variable(text, name, value)
 }
 
