@@ -8,3 +8,5 @@ pub mod Bound
 pub mod Turns
 pub mod Scripts
 pub mod Listed
+pub mod Promising
+pub mod Given

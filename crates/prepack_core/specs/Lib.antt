@@ -5,5 +5,7 @@ pub mod Fetch
 pub mod Hosts
 pub mod Words
 pub mod Report
+pub mod Promises
+pub mod Top
 pub mod Values
 pub mod Evaluates

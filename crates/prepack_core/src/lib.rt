@@ -1,6 +1,7 @@
 //! The call that does all that the program does.
 #![tactic(auto)]
 
+mod answer;
 mod evaluate;
 mod flow;
 mod host;
@@ -8,6 +9,7 @@ mod io;
 mod memory;
 mod report;
 mod residual;
+mod top;
 mod value;
 mod variables;
 mod words;

@@ -1,6 +1,9 @@
 //! The text of the residual that declares given variables.
 
 ghost use Rattle.std.specs.Prelude.{◌≡◌, ◌==◌, ◌+◌, ◌<◌, ◌++◌, if◌then◌else◌, codes, length, take, IsTrue, IfOk, OnOk};
+ghost use Rattle.std.specs.List.{IsDistinct};
+ghost use Rattle.std.specs.Map.{keys_of};
+ghost use Rattle.std.specs.Str.{bytes_eq};
 ghost use Rattle.js_tree.specs.SimpleTokens.{is_simple_name};
 ghost use Rattle.js_machine.specs.Readable as spec;
 ghost use Rattle.prepack_core.specs.Values.{primitive_of};
@@ -58,13 +61,16 @@ fn push_at(text: &mut Vec<u8>, variables: &Variables, i: usize) -> Result<(), No
 
 /// The text of the residual of variables: one `var` statement, or nothing where there is no variable.
 pub fn residual_text(alloc: Global, variables: &Variables) -> Result<Vec<u8>, NoMemory>
-    ensures { IfOk result (λ text. text.items ≡ spec.variables_text variables.now) }
+    ensures text { IfOk result (λ text. text.items ≡ spec.variables_text variables.now) }
+    ensures readable { IsTrue (spec.is_readable variables.now) }
+    ensures distinct { IsDistinct bytes_eq (keys_of variables.now) }
 {
+    let count = variables.len();
     let mut text = Vec::new(alloc);
-    for i in 0..variables.len() {
+    for i in 0..count {
         push_at(&mut text, variables, i)?;
     }
-    if variables.len() > 0 {
+    if count > 0 {
         text.extend_from_slice(b";\n")?;
     }
     Ok(text)

@@ -1,0 +1,68 @@
+-- The residual of a script's variables keeps what is promised.
+use Rattle.std.proofs.Common.{◌≡◌, ℕ, ◌*◌, ◌≤◌, Bool, List, [], ◌∷◌, length, refl, ap, sym, ◌∙◌, arith, IsTrue}
+use Rattle.std.specs.Prelude.{Option, Some, None, Result, Ok, Err}
+use Rattle.js_value.specs.declared.why.Why.{Why}
+use Rattle.js_tree.specs.declared.refusal.ReadRefused.TheVariants.{Unsupported}
+use Rattle.js_tree.specs.declared.refusal.Feature.TheVariants.{NotBuilt}
+use Rattle.js_tree.specs.declared.statement.Script.{Script}
+use Rattle.js_tree.specs.Count.{nodes}
+use Rattle.js_tree.specs.SimpleTokens.{place}
+use Rattle.js_tree.specs.Simple.{reads, simple_script, or_not_built}
+use Rattle.js_tree.specs.Residual.{is_residual, IsFresh, snapshot}
+use Rattle.js_tree.specs.Text.{script_text}
+use Rattle.js_machine.specs.Events.{Heap}
+use Rattle.js_machine.specs.Readable.{placed}
+use Rattle.js_machine.specs.Runs.{World, empty_world, Call, Ending, Outcome, Ended, Normal, Left, plain, opened, open_run}
+use Rattle.js_machine.specs.Listing.{listing, EndAlike}
+use Rattle.prepack_core.specs.declared.evaluate.Departure.{Departure}
+use Rattle.prepack_core.specs.declared.evaluate.Stop.{Stop}
+use Rattle.prepack_core.specs.declared.evaluate.Stop.TheVariants as stop
+use Rattle.prepack_core.specs.declared.report.Report.{Report}
+use Rattle.prepack_core.specs.declared.report.Report.TheVariants as report
+use Rattle.prepack_core.specs.Evaluates.{Evaluates}
+use Rattle.prepack_core.specs.Promises.{IsResidualOf, IsReason, IsReportOf, IsUnsupported}
+
+-- a source within the limit has fewer nodes than the least budget
+pub few_steps : (nodes length steps : ℕ) → 63 * nodes ≤ 60 * length → length ≤ 1048576 → 1000000 ≤ steps → nodes ≤ steps
+few_steps nodes length steps few short enough = omega arith
+
+pub reads-simple : (source : List ℕ) (limit : ℕ) (found : Option Script) (s : Script) → found ≡ simple_script source → found ≡ Some s → reads source limit ≡ Ok s
+unfolding reads
+reads-simple source limit found s is some = ap or_not_built (sym is ∙ some)
+
+pub reads-not_simple : (source : List ℕ) (found : Option Script) → found ≡ simple_script source → found ≡ None → IsUnsupported source (place 0) NotBuilt
+unfolding reads
+reads-not_simple source found is none = ap or_not_built (sym is ∙ none)
+
+same_heap : (calls calls2 : List Call) (e e2 : Ending) (h h2 : Heap) → Ended calls e h ≡ Ended calls2 e2 h2 → h ≡ h2
+same_heap calls calls2 e e2 h h2 same = cc
+
+no_row : (heap : Heap) → listing heap ≡ [] → heap ≡ []
+no_row [] none = refl
+no_row (p ∷ ps) none = cc
+
+ends_alike : (a b : Outcome) (heap : Heap) → a ≡ Ended [] Normal heap → b ≡ Ended [] Normal heap → EndAlike a b
+ends_alike a b heap x y = rw (x, y) (refl, refl, refl)
+
+pub residual_of : (n : ℕ) (source text : List ℕ) (s : Script) (vs : Heap) → reads source 200 ≡ Ok s → nodes s ≤ n → Evaluates s (Ok vs) → text ≡ script_text (snapshot vs)
+    → reads (script_text (snapshot vs)) 1024 ≡ Ok (placed vs) → IsTrue (is_residual (placed vs)) → IsFresh (placed vs) s → script_text (placed vs) ≡ script_text (snapshot vs)
+    → ((w : World) → plain (placed vs) w (nodes (placed vs)) ≡ Ended [] Normal vs) → IsResidualOf n source text
+unfolding open_run snapshot script_text
+residual_of n source text s vs read enough runs e back form fresh same rebuilds = record {
+  script = s;
+  reads_source = read;
+  residual = placed vs;
+  reads_back = ap (λ t. reads t 1024) e ∙ back;
+  form = form;
+  fresh = fresh;
+  text = e ∙ sym same;
+  alike = λ w typed stays. ends_alike (plain s w n) (plain (placed vs) w (nodes (placed vs))) vs (runs w n enough) (rebuilds w);
+  paths = λ choices. rw (runs empty_world n enough) tt;
+  variables = λ w calls heap ran are has. e ∙ ap (λ h. script_text (snapshot h)) (same_heap [] calls Normal Normal vs heap (sym (runs w n enough) ∙ ran));
+  nothing = λ w calls heap ran none. e ∙ ap (λ h. script_text (snapshot h)) (same_heap [] calls Normal Normal vs heap (sym (runs w n enough) ∙ ran) ∙ no_row heap none);
+}
+
+pub reason_of : (n : ℕ) (source : List ℕ) (s : Script) (stopped : Stop) (r : Report) → reads source 200 ≡ Ok s → nodes s ≤ n → Evaluates s (Err stopped) → IsReportOf stopped r → IsReason n source r
+unfolding open_run
+reason_of n source s (stop.Left d) r read enough runs is = rw is (s, read, refl, ap opened (runs empty_world n enough))
+reason_of n source s stop.NoMemory r read enough runs is = rw is tt

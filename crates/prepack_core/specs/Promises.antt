@@ -1,0 +1,73 @@
+-- What the program promises of a source and of what it writes for it.
+use Rattle.std.specs.Prelude.{◌≡◌, ℕ, Bool, List, [], Result, Ok, Err, IsTrue, All, Contains, codes}
+use Rattle.js_value.specs.declared.place.Place.{Place}
+use Rattle.js_value.specs.declared.primitive.Primitive.{Primitive}
+use Rattle.js_value.specs.declared.primitive.Primitive.TheVariants as primitive
+use Rattle.js_value.specs.declared.why.Why.{Why}
+use Rattle.js_tree.specs.declared.statement.Script.{Script}
+use Rattle.js_tree.specs.declared.refusal.Feature.{Feature}
+use Rattle.js_tree.specs.declared.refusal.ReadRefused.TheVariants.{Unsupported}
+use Rattle.js_tree.specs.Count.{nodes}
+use Rattle.js_tree.specs.Simple.{reads, declared_names}
+use Rattle.js_tree.specs.Residual.{is_residual, IsFresh, snapshot}
+use Rattle.js_tree.specs.Text.{script_text}
+use Rattle.js_machine.specs.Events.{Heap}
+use Rattle.js_machine.specs.Runs.{World, IsTyped, Call, Outcome, Ended, Normal, plain, Opened, OpenEnded, Stopped, Leaves, open_run, IsWhole, EndsOrWants}
+use Rattle.js_machine.specs.Listing.{Row, listing, IsLeft, EndAlike}
+use Rattle.prepack_core.specs.declared.evaluate.Stop.{Stop}
+use Rattle.prepack_core.specs.declared.evaluate.Stop.TheVariants as stop
+use Rattle.prepack_core.specs.declared.report.Report.{Report}
+use Rattle.prepack_core.specs.declared.report.Report.TheVariants as report
+
+-- each line of the global object's row is a declared name that doesn't hold the string `__proto__`
+abbrev pub AreVariables : Script → Heap → Type 0
+AreVariables s heap = All (λ (p : List ℕ × Primitive). Contains (declared_names s.body) p.0 × (p.1 ≡ primitive.Text (codes "__proto__") → ⊥)) heap
+
+-- a script has by itself this listing
+abbrev pub HasListing : Script → List Row → Type 0
+HasListing r rows = (w : World) → (calls : List Call) × (heap : Heap) × (plain r w (nodes r) ≡ Ended calls Normal heap) × (listing heap ≡ rows)
+
+-- The text written is a residual of the source, under a budget of steps for the source.
+pub record IsResidualOf (n : ℕ) (source written : List ℕ) : Type 0 where
+  -- the source is a script
+  pub script : Script
+  pub reads_source : reads source 200 ≡ Ok script
+  -- what is written is a script in residual form, whose temporaries are none of the source's names, and the text of that script
+  pub residual : Script
+  pub reads_back : reads written 1024 ≡ Ok residual
+  pub form : IsTrue (is_residual residual)
+  pub fresh : IsFresh residual script
+  pub text : written ≡ script_text residual
+  -- In every world in which the source's run doesn't leave the profile, both end, with the same host calls, the same completion
+  -- and equal listings. The residual takes no more steps than it has nodes.
+  pub alike : (w : World) → IsTyped w script → (IsLeft (plain script w n) → ⊥) → EndAlike (plain script w n) (plain residual w (nodes residual))
+  -- along every list of choices the source ends or wants a choice
+  pub paths : (choices : List Bool) → EndsOrWants (open_run script choices n)
+  -- where the source leaves variables alone, the residual is their `var` statement
+  pub variables : (w : World) (calls : List Call) (heap : Heap) → plain script w n ≡ Ended calls Normal heap → AreVariables script heap → HasListing (snapshot heap) (listing heap) → written ≡ script_text (snapshot heap)
+  -- where it leaves nothing, nothing is written
+  pub nothing : (w : World) (calls : List Call) (heap : Heap) → plain script w n ≡ Ended calls Normal heap → listing heap ≡ [] → written ≡ []
+
+-- the source is a script whose run along these choices, all of which it takes, stops at a place, since it leaves the profile there
+abbrev pub IsStuck : ℕ → List ℕ → Place → Why → List Bool → Type 0
+IsStuck n source at why choices = (s : Script) × (reads source 200 ≡ Ok s) × IsWhole s choices n × (open_run s choices n ≡ Stopped (Leaves why) at)
+
+-- the source is a script that ends within the budget
+abbrev pub IsFinished : ℕ → List ℕ → Type 0
+IsFinished n source = (s : Script) × (reads source 200 ≡ Ok s) × (open_run s [] n ≡ OpenEnded)
+
+-- the source isn't read, for a feature at a place
+abbrev pub IsUnsupported : List ℕ → Place → Feature → Type 0
+IsUnsupported source at feature = reads source 200 ≡ Err (Unsupported at feature)
+
+-- why a source of at most the limit has no residual
+abbrev pub IsReason : ℕ → List ℕ → Report → Type 0
+IsReason n source (report.Unsupported at feature) = IsUnsupported source at feature
+IsReason n source (report.Stuck at why) = IsStuck n source at why []
+IsReason n source report.NoMemory = Unit {0}
+IsReason n source _ = ⊥
+
+-- the report of a run that stopped
+abbrev pub IsReportOf : Stop → Report → Type 0
+IsReportOf (stop.Left d) r = r ≡ report.Stuck d.at d.why
+IsReportOf stop.NoMemory r = r ≡ report.NoMemory
