@@ -43,6 +43,11 @@ HasReason n old new before now (report.Stuck at why) = IsRead old new (λ source
 HasReason n old new before now report.Usage = ⊥
 HasReason n old new before now report.WriteFault = ⊥
 
+-- why a run writes nothing: the words ask for nothing, or what the command comes to
+abbrev pub IsRefusal : Option Command → Option (List ℕ) → Option (List ℕ) → ℕ → ℕ → Report → Type 0
+IsRefusal None old new before now r = r ≡ report.Usage
+IsRefusal (Some (Eval n)) old new before now r = HasReason n old new before now r
+
 -- the statuses under which the whole source was read
 abbrev pub reads_whole : Status → Bool
 reads_whole status.Done = true

@@ -21,6 +21,7 @@ pub use io::{Got, Sink, Source, StdSink, StdSource, Wrote};
 pub use memory::{MemorySink, MemorySource};
 pub use residual::residual_text;
 pub use report::{Report, Status, tell};
+pub use top::prepack;
 pub use value::{Number, Value};
 pub use variables::Variables;
 pub use words::{Command, read_words};
