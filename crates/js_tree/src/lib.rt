@@ -5,6 +5,7 @@ mod count;
 mod expression;
 mod refusal;
 mod statement;
+mod token;
 
 pub use count::nodes;
 pub use expression::{Elements, Expr, ExprForm, Exprs, Field, Fields, LogicOp, StepOp};
@@ -12,4 +13,7 @@ pub use refusal::{Feature, ReadRefused};
 pub use statement::{
     Case, Cases, Catch, Declarator, Declarators, Finally, ForStart, ForTarget, Func, Funcs, Name,
     Names, Script, Stmt, StmtForm, Stmts,
+};
+pub use token::{
+    InputElement, KEYWORDS, Keyword, PUNCTUATORS, Punctuator, Token, TokenForm, Tokens,
 };
