@@ -199,9 +199,20 @@ string_from opened quote zero text n at (c ∷ z) =
 abbrev pub string : ℕ → List ℕ → Scan
 string at z = string_from at (slice_index z 0) 0 [] 1 (at + 1) (drop 1 z)
 
--- ---- the white space, the line end or the token at the front of a text that isn't empty
+-- ---- what stands at the front of a text that isn't empty
 
--- 34 and 39 are the quotes, 46 is `.`, 47 `/`, 42 `*`, 92 the backslash
+-- a token (7.5); 34 and 39 are the quotes, 46 is `.`, 92 the backslash
+unfoldable pub scan_token : ℕ → List ℕ → Scan
+scan_token at z =
+    let c = slice_index z 0 in
+    if is_name_start c then name at z
+    else (if is_ascii_digit c then number at z
+    else (if c == 46 && is_ascii_digit (slice_index z 1) then unsupported at feature.NumberLiteral
+    else (if c == 34 || c == 39 then string at z
+    else (if c == 92 then unsupported at feature.IdentifierEscape
+    else punctuator at (longest_punctuator z)))))
+
+-- white space, a line end, a comment or a token; 47 is `/`, 42 `*`
 unfoldable pub scan : ℕ → List ℕ → Scan
 scan at z =
     let c = slice_index z 0 in
@@ -210,12 +221,7 @@ scan at z =
     else (if is_line_end c then Ok (element.LineEnd, 1)
     else (if c == 47 && next == 47 then line_comment z
     else (if c == 47 && next == 42 then block_comment at false 2 (drop 2 z)
-    else (if is_name_start c then name at z
-    else (if is_ascii_digit c then number at z
-    else (if c == 46 && is_ascii_digit next then unsupported at feature.NumberLiteral
-    else (if c == 34 || c == 39 then string at z
-    else (if c == 92 then unsupported at feature.IdentifierEscape
-    else punctuator at (longest_punctuator z)))))))))
+    else scan_token at z)))
 
 -- ---- all tokens
 
@@ -226,14 +232,23 @@ abbrev pub with_front : List Token → Lexed → Lexed
 with_front front (Ok more) = Ok (front ++ more)
 with_front front (Err e) = Err e
 
+-- the token between two places, if it is one
+abbrev pub kept : ℕ → ℕ → Bool → InputElement → List Token
+kept at end line (element.Token f) = record { at = place at; end = place end; line_before = line; form = f } ∷ []
+kept at end line element.WhiteSpace = []
+kept at end line element.LineEnd = []
+
+-- whether a line end stands before what follows
+abbrev pub line_after : Bool → InputElement → Bool
+line_after line (element.Token f) = false
+line_after line element.WhiteSpace = line
+line_after line element.LineEnd = true
+
 -- What stands at a place, and then what follows it: whether a line end stands before that, and how many characters are left
 -- until it.
 abbrev pub going_on : ℕ → Bool → List ℕ → Scan → (Bool → ℕ → Lexed) → Lexed
 going_on at line z (Err e) rest = Err e
-going_on at line z (Ok (element.WhiteSpace, n)) rest = rest line (n - 1)
-going_on at line z (Ok (element.LineEnd, n)) rest = rest true (n - 1)
-going_on at line z (Ok (element.Token f, n)) rest =
-    with_front (record { at = place at; end = place (at + width (take n z)); line_before = line; form = f } ∷ []) (rest false (n - 1))
+going_on at line z (Ok t) rest = with_front (kept at (at + width (take t.1 z)) line t.0) (rest (line_after line t.0) (t.1 - 1))
 
 -- The tokens from a place on, where a line end stands before it or not. The second number counts the characters that are
 -- left of what began earlier.
