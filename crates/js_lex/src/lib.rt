@@ -5,6 +5,8 @@ mod characters;
 mod comments;
 mod numbers;
 mod strings;
+#[cfg(test)]
+mod tests;
 mod tokens;
 mod words;
 
