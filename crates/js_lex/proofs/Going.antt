@@ -15,7 +15,7 @@ use Rattle.js_tree.specs.declared.token.Token.{Token}
 use Rattle.js_lex.proofs.Scanning.{width_more}
 
 -- characters that are left of a token are dropped
-pub skip_lex : (at : ℕ) (line : Bool) (left : ℕ) (z : List ℕ) → lex_from at line left z ≡ lex_from (at + width (take left z)) line 0 (drop left z)
+skip_lex : (at : ℕ) (line : Bool) (left : ℕ) (z : List ℕ) → lex_from at line left z ≡ lex_from (at + width (take left z)) line 0 (drop left z)
 skip_lex at line zero z = rw add-zero refl
 skip_lex at line (suc left) [] = refl
 skip_lex at line (suc left) (c ∷ z) =
@@ -23,7 +23,7 @@ skip_lex at line (suc left) (c ∷ z) =
     skip_lex (at + len_utf8 c) line left z ∙ ap (λ m. lex_from m line 0 (drop left z)) place
 
 -- what stands at a position: white space, a line end, a token or a fault
-pub lex_step : (at : ℕ) (line : Bool) (i : ℕ) (z : List ℕ) → i < length z
+lex_step : (at : ℕ) (line : Bool) (i : ℕ) (z : List ℕ) → i < length z
     → lex_from at line 0 (drop i z) ≡ going_on at line (drop i z) (scan at (drop i z)) (λ line left. lex_from (at + len_utf8 (get_or z i 0)) line left (drop (i + 1) z))
 lex_step at line i z below =
     at_drop_more (lex_from at line 0) z i 0 below

@@ -49,7 +49,7 @@ hex_bound n (c ∷ z) e =
     rw pow-suc (hex_room _ n (digit_value c) (16 ^ length z) s.0 (hex_bound (16 * n + digit_value c) z s.1))
 
 -- four hexadecimal digits make a unit
-pub hex_small : (z : List ℕ) → prefix_len is_ascii_hexdigit z ≡ length z → length z ≤ 4 → value 16 z < 65536
+hex_small : (z : List ℕ) → prefix_len is_ascii_hexdigit z ≡ length z → length z ≤ 4 → value 16 z < 65536
 hex_small z e short =
     let most : 16 ^ length z ≤ 16 ^ 4 = pow-le-pow_right (omega arith) short in
     omega (arith, hex_bound 0 z e)
@@ -66,7 +66,7 @@ hex_unit_is n z found v few long e enough is_value =
 
 -- ---- strings
 
-pub skip_string : (opened quote left : ℕ) (text : List ℕ) (n at : ℕ) (z : List ℕ) → string_from opened quote left text n at z ≡ string_from opened quote 0 text (n + left) (at + width (take left z)) (drop left z)
+skip_string : (opened quote left : ℕ) (text : List ℕ) (n at : ℕ) (z : List ℕ) → string_from opened quote left text n at z ≡ string_from opened quote 0 text (n + left) (at + width (take left z)) (drop left z)
 skip_string opened quote zero text n at z = simp add-zero refl
 skip_string opened quote (suc left) text n at [] = refl
 skip_string opened quote (suc left) text n at (c ∷ z) =
@@ -100,8 +100,6 @@ string_escape opened quote text n at i z more len w below other same_line slash 
 pub string_char : (opened quote : ℕ) (text : List ℕ) (n at i : ℕ) (z : List ℕ) → i < length z → (get_or z i 0 == quote) ≡ false → is_line_end (get_or z i 0) ≡ false
     → (get_or z i 0 == 92) ≡ false → string_from opened quote 0 text n at (drop i z) ≡ string_from opened quote 0 (text ++ encode_utf16 (get_or z i 0)) (n + 1) (at + len_utf8 (get_or z i 0)) (drop (i + 1) z)
 string_char opened quote text n at i z below other same_line slash = at_drop_more (string_from opened quote 0 text n at) z i 0 below ∙ rw (other, same_line, slash) refl
-
-pub ruleset strings = (string_escape, string_char)
 
 -- ---- answers that are the definition's
 

@@ -20,6 +20,7 @@ fn digits_len(z: &[char]) -> usize
     z.iter().take_while(|c| c.is_ascii_digit()).count()
 }
 
+/// How many hexadecimal digits the characters begin with.
 pub fn hex_digits_len(z: &[char]) -> usize
     ensures value { result ≡ prefix_len is_ascii_hexdigit z.now }
     ensures within { result ≤ length z.now }

@@ -106,7 +106,7 @@ fn escape(alloc: Global, at: u32, z: &[char]) -> Result<(Text, usize), ReadRefus
 }
 
 /// The string that a quote opened at a place, from behind the quote on.
-#[tactic(auto, using(crate::proofs::Scanning::strings))]
+#[tactic(auto, using(crate::proofs::Scanning::string_char))]
 fn string_from(
     alloc: Global,
     opened: u32,

@@ -65,16 +65,18 @@ block_comment at line n (c ∷ z) =
 
 -- ---- names and reserved words (7.6)
 
+-- the 16-bit units of characters
 abbrev pub units : List ℕ → List ℕ
 units z = flat_map encode_utf16 z
 
--- the text of n characters as a token; `__proto__` isn't supported as a name or a string
 abbrev pub is_proto : List ℕ → Bool
 is_proto text = pointwise nat_eq text (codes "__proto__")
 
+-- a name or a string of n characters with this text: one whose text is `__proto__` isn't supported
 abbrev pub word : ℕ → ℕ → List ℕ → TokenForm → Scan
 word at n text f = if is_proto text then unsupported at feature.ProtoName else token f n
 
+-- what a table has for a spelling
 abbrev pub lookup : {V : Type 0} → List (List ℕ × V) → List ℕ → Option V
 lookup [] word = None
 lookup (row ∷ rows) word = if pointwise nat_eq row.0 word then Some row.1 else lookup rows word
@@ -86,6 +88,7 @@ abbrev pub name_or_reserved : ℕ → ℕ → List ℕ → Option Keyword → Sc
 name_or_reserved at n text (Some keyword) = token (form.Reserved keyword) n
 name_or_reserved at n text None = word at n (units text) (form.Name (units text))
 
+-- a name takes all characters that can go on with it
 abbrev pub name : ℕ → List ℕ → Scan
 name at z = let n = prefix_len is_name_part z in name_or_reserved at n (take n z) (reserved_word (take n z))
 
@@ -108,6 +111,7 @@ punctuator at (Some p, n) = token (form.Punctuator p) n
 
 -- ---- numbers (7.8.3)
 
+-- 2^53 - 1
 abbrev pub greatest : ℕ
 greatest = 9007199254740991
 
@@ -115,21 +119,24 @@ greatest = 9007199254740991
 abbrev pub value : ℕ → List ℕ → ℕ
 value radix digits = fold (λ n c. radix * n + digit_value c) 0 digits
 
--- a whole number that n characters spell; 46 is `.`
+-- A whole number that n characters spell. One above the greatest isn't supported, and none may be followed by a character
+-- that goes on with a name.
 abbrev pub whole : ℕ → ℕ → ℕ → List ℕ → Scan
 whole at n number z =
     if nat_lt greatest number then unsupported at feature.NumberLiteral else (if is_name_part (slice_index z n) then syntax (at + n) else token (form.Number (pos number)) n)
 
--- `e` or `E`, maybe a sign, and a digit
+-- `e` or `E`, maybe a sign, and a digit; 46 is `.`
 abbrev pub begins_exponent : List ℕ → Bool
 begins_exponent z =
     let c = slice_index z 1 in
     (slice_index z 0 == 101 || slice_index z 0 == 69) && (is_ascii_digit c || (c == 43 || c == 45) && is_ascii_digit (slice_index z 2))
 
+-- n decimal digits; a point or an exponent behind them isn't supported
 abbrev pub decimal : ℕ → ℕ → List ℕ → Scan
 decimal at n z =
     if slice_index z n == 46 || begins_exponent (drop n z) then unsupported at feature.NumberLiteral else whole at n (value 10 (take n z)) z
 
+-- `0x` and n hexadecimal digits
 abbrev pub hexadecimal : ℕ → ℕ → List ℕ → Scan
 hexadecimal at n z = whole at (n + 2) (value 16 (take n (drop 2 z))) z
 
@@ -137,6 +144,7 @@ hexadecimal at n z = whole at (n + 2) (value 16 (take n (drop 2 z))) z
 abbrev pub begins_hexadecimal : List ℕ → Bool
 begins_hexadecimal z = slice_index z 0 == 48 && (slice_index z 1 == 120 || slice_index z 1 == 88) && is_ascii_hexdigit (slice_index z 2)
 
+-- a zero before a digit, the old octal literal, isn't supported (B.1.1)
 unfoldable pub number : ℕ → List ℕ → Scan
 number at z =
     if begins_hexadecimal z then hexadecimal at (prefix_len is_ascii_hexdigit (drop 2 z)) z
@@ -196,6 +204,7 @@ string_from opened quote zero text n at (c ∷ z) =
     else (if c == 92 then escaped (escape at z) (λ more left. string_from opened quote left (text ++ more) (n + 1) (at + len_utf8 c) z)
     else string_from opened quote zero (text ++ encode_utf16 c) (n + 1) (at + len_utf8 c) z))
 
+-- a string begins with its quote
 abbrev pub string : ℕ → List ℕ → Scan
 string at z = string_from at (slice_index z 0) 0 [] 1 (at + 1) (drop 1 z)
 
