@@ -5,13 +5,10 @@ use Rattle.std.specs.List.{list_all, list_any, prefix_len}
 use Rattle.std.specs.Option.{option_map, option_to_list}
 use Rattle.std.specs.Str.{bytes_eq}
 use Rattle.std.specs.Str.Parse.{digits_value}
-use Rattle.js_value.specs.declared.place.Place.{Place}
+pub use Rattle.js_tree.specs.Refusals.{place}
 use Rattle.js_tree.specs.declared.simple.SimpleToken.{SimpleToken}
 use Rattle.js_tree.specs.declared.simple.SimpleToken.TheVariants.{Var, Name, Number, Minus, Plus, Equals, Comma, Semicolon}
 use Rattle.js_tree.specs.declared.simple.TheConstants.{TAKEN_WORDS}
-
-abbrev pub place : ℕ → Place
-place at = record { 0 = at }
 
 -- 7.2 and 7.3: the space and the line feed
 abbrev pub is_gap : ℕ → Bool

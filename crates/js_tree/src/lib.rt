@@ -6,6 +6,7 @@ mod expression;
 mod refusal;
 mod simple;
 mod statement;
+mod token;
 
 pub use count::nodes;
 pub use expression::{Elements, Expr, ExprForm, Exprs, Field, Fields, LogicOp, StepOp};
@@ -14,4 +15,7 @@ pub use simple::{MOST_TERMS, SimpleToken, TAKEN_WORDS};
 pub use statement::{
     Case, Cases, Catch, Declarator, Declarators, Finally, ForStart, ForTarget, Func, Funcs, Name,
     Names, Script, Stmt, StmtForm, Stmts,
+};
+pub use token::{
+    InputElement, KEYWORDS, Keyword, PUNCTUATORS, Punctuator, Token, TokenForm, Tokens,
 };

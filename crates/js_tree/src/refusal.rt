@@ -1,4 +1,7 @@
-use js_value::Place;
+ghost use Rattle.std.specs.Prelude.{◌≡◌};
+
+use js_value::{NoMemory, Place};
+use std::alloc::{AllocError, AllocFailed};
 
 /// What a text may have that isn't supported.
 #[derive(Clone, Copy, Debug, PartialEq, Eq)]
@@ -34,4 +37,34 @@ pub enum ReadRefused {
     /// More parts are open than the limit allows.
     Nested(Place),
     NoMemory,
+}
+
+impl From<NoMemory> for ReadRefused {
+    ghost use Rattle.js_tree.specs.declared.refusal.ReadRefused.TheVariants.{NoMemory};
+
+    ghost from_gives = { λ _ e. e ≡ NoMemory };
+
+    fn from(_: NoMemory) -> ReadRefused {
+        ReadRefused::NoMemory
+    }
+}
+
+impl From<AllocError> for ReadRefused {
+    ghost use Rattle.js_tree.specs.declared.refusal.ReadRefused.TheVariants.{NoMemory};
+
+    ghost from_gives = { λ _ e. e ≡ NoMemory };
+
+    fn from(_: AllocError) -> ReadRefused {
+        ReadRefused::NoMemory
+    }
+}
+
+impl<T: Drop> From<AllocFailed<T>> for ReadRefused {
+    ghost use Rattle.js_tree.specs.declared.refusal.ReadRefused.TheVariants.{NoMemory};
+
+    ghost from_gives = { λ _ e. e ≡ NoMemory };
+
+    fn from(_: AllocFailed<T>) -> ReadRefused {
+        ReadRefused::NoMemory
+    }
 }
