@@ -1,5 +1,5 @@
 -- What a simple statement counts.
-use Rattle.std.proofs.Common.{◌≡◌, ℕ, ◌+◌, Bool, true, refl, ap, ◌∙◌}
+use Rattle.std.proofs.Common.{◌≡◌, ℕ, ◌+◌, true, refl, ap, ◌∙◌}
 use Rattle.js_tree.specs.declared.statement.Stmt.{Stmt}
 use Rattle.js_tree.specs.declared.statement.Case.{Case}
 use Rattle.js_tree.specs.declared.statement.Catch.{Catch}
