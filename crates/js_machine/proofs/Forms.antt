@@ -5,16 +5,13 @@ use Rattle.js_value.specs.declared.place.Place.{Place}
 use Rattle.js_value.specs.declared.primitive.Primitive.TheVariants as primitive
 use Rattle.js_value.specs.declared.operator.UnaryOp.TheVariants as unary
 use Rattle.js_tree.specs.declared.expression.Expr.{Expr, fold-Expr}
-
-
 use Rattle.js_tree.proofs.Folds.{fold-of_expr, fold-Literal, fold-Unary}
 use Rattle.js_tree.specs.declared.expression.ExprForm.TheOpen.{ExprForm-F, Field-F, Expr-F}
-
 use Rattle.js_tree.specs.declared.statement.Declarator.{Declarator}
 use Rattle.js_tree.specs.declared.statement.StmtForm.TheVariants.{Var, outs-Var}
 use Rattle.js_tree.specs.declared.statement.StmtForm.TheFolds.{fold_out-StmtForm, fold_out-Stmt}
 use Rattle.js_tree.specs.Count.{of_stmt_form, of_case, of_catch, of_finally, of_stmt, in_stmt, in_declarators}
-use Rattle.js_tree.specs.Simple.{var_at, expr, literal, minus}
+use Rattle.js_tree.specs.Simple.{var_at, literal, minus}
 
 module _ (A B C : Type 0) (f : ExprForm-F A B C → A) (g : Field-F A B C → B) (h : Expr-F A B C → C) where
   -- a fold of a literal

@@ -1,6 +1,6 @@
 -- Variables in a map as the properties of the global object.
-use Rattle.std.proofs.Common.{◌≡◌, ℕ, Bool, true, false, cond, List, [], ◌∷◌, refl, ap, sym, ◌∙◌, IsTrue}
-use Rattle.std.specs.Prelude.{Option, Some, None, ◌&&◌, slice_get}
+use Rattle.std.proofs.Common.{◌≡◌, ℕ, Bool, true, false, cond, List, [], ◌∷◌, refl, ap, sym, ◌∙◌}
+use Rattle.std.specs.Prelude.{Some, ◌&&◌, slice_get}
 use Rattle.std.specs.Option.{option_map}
 use Rattle.std.specs.List.{list_all}
 use Rattle.std.specs.Map.{lookup as entry_of, keys_of}
@@ -11,7 +11,7 @@ use Rattle.js_tree.specs.SimpleTokens.{is_simple_name}
 use Rattle.js_machine.specs.Readable.{is_plain_value, is_readable, is_readable_variable}
 use Rattle.std.specs.Str.{bytes_eq}
 use Rattle.indexmap.specs.IndexMap.{insert_entry}
-use Rattle.js_machine.specs.Events.{Heap, lookup, put}
+use Rattle.js_machine.specs.Events.{lookup, put}
 use Rattle.prepack_core.specs.declared.value.Value.{Value}
 use Rattle.prepack_core.specs.declared.value.Value.TheVariants as value
 use Rattle.prepack_core.specs.Values.{primitive_of, shown}

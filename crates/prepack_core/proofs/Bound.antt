@@ -1,5 +1,5 @@
 -- Which names are bound.
-use Rattle.std.proofs.Common.{◌≡◌, ℕ, Bool, true, false, cond, List, [], ◌∷◌, ◌++◌, refl, ap, sym, ◌∙◌, subst}
+use Rattle.std.proofs.Common.{◌≡◌, ℕ, Bool, true, false, cond, List, [], ◌∷◌, refl, ap, sym, ◌∙◌, subst}
 use Rattle.std.specs.Prelude.{Option, Some, None, ◌&&◌, ◌||◌, is_some}
 use Rattle.std.specs.List.{list_all}
 use Rattle.std.specs.Str.{bytes_eq}
@@ -14,9 +14,10 @@ use Rattle.prepack_core.specs.Evaluates.{is_bound, are_bound, KeepsBound, declar
 put_keeps : (name other : List ℕ) (value : Primitive) (heap : Heap) → is_bound heap other ≡ true → is_bound (put name value heap) other ≡ true
 put_keeps name other value [] h = cc
 put_keeps name other value (p ∷ ps) h =
-    elim (bytes_eq name p.0) as (λ b. is_bound (cond b ((p.0, value) ∷ ps) (p ∷ put name value ps)) other ≡ true)
-    [ true ↦ either (bytes_eq other p.0) p.1 value (lookup other ps) (lookup other ps) (λ e. e) h
-    | false ↦ either (bytes_eq other p.0) p.1 p.1 (lookup other ps) (lookup other (put name value ps)) (put_keeps name other value ps) h ]
+    elim (bytes_eq name p.0) as (λ b. is_bound (cond b ((p.0, value) ∷ ps) (p ∷ put name value ps)) other ≡ true) [
+      | true ↦ either (bytes_eq other p.0) p.1 value (lookup other ps) (lookup other ps) (λ e. e) h
+      | false ↦ either (bytes_eq other p.0) p.1 p.1 (lookup other ps) (lookup other (put name value ps)) (put_keeps name other value ps) h
+    ]
   where
     either : (b : Bool) (v w : Primitive) (o q : Option Primitive) → (is_some o ≡ true → is_some q ≡ true) → is_some (cond b (Some v) o) ≡ true → is_some (cond b (Some w) q) ≡ true
     either true v w o q f h = refl

@@ -1,10 +1,8 @@
 -- Evaluations, put together.
-use Rattle.std.proofs.Common.{◌≡◌, ℕ, ◌+◌, suc, List, [], ◌∷◌, ◌++◌, refl, ap, sym, ◌∙◌, arith, add_assoc, add-zero, zero-add, subst, true}
+use Rattle.std.proofs.Common.{◌≡◌, ℕ, ◌+◌, suc, List, refl, ap, sym, ◌∙◌, arith, add_assoc, add-zero, zero-add, subst, true}
 use Rattle.std.specs.Prelude.{Option, Some, None, Result, Ok, Err}
-use Rattle.js_value.specs.Numbers.{added, subtracted, negated}
 use Rattle.js_value.specs.declared.place.Place.{Place}
 use Rattle.js_value.specs.declared.primitive.Primitive.{Primitive}
-use Rattle.js_value.specs.declared.primitive.Primitive.TheVariants as primitive
 use Rattle.js_value.specs.declared.operator.BinaryOp.{BinaryOp}
 use Rattle.js_value.specs.declared.operator.BinaryOp.TheVariants as binary
 use Rattle.js_value.specs.declared.operator.UnaryOp.{UnaryOp}
@@ -24,7 +22,7 @@ use Rattle.js_tree.specs.declared.statement.StmtForm.{out-StmtForm}
 use Rattle.js_tree.specs.declared.statement.StmtForm.TheOpen.{StmtForm-F}
 use Rattle.js_machine.specs.Events.{Heap, Tree, Step, Run, ◌>>=◌, step, give, lookup, put, change, or_no_rule}
 use Rattle.js_machine.specs.Simple.{evaluation, minus_rule, add_rule, subtract_rule, name_rule, negation, arithmetic, form_rule, expr_rule, declarator_rule, declarators_rule, statement_rule, statement}
-use Rattle.js_machine.specs.Runs.{walk, Left}
+use Rattle.js_machine.specs.Runs.{walk}
 use Rattle.prepack_core.specs.declared.value.Value.{Value}
 use Rattle.prepack_core.specs.declared.evaluate.Departure.{Departure}
 use Rattle.prepack_core.specs.declared.evaluate.Stop.{Stop}

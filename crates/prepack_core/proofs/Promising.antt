@@ -1,8 +1,6 @@
 -- The residual of a script's variables keeps what is promised.
-use Rattle.std.proofs.Common.{◌≡◌, ℕ, ◌*◌, ◌≤◌, Bool, List, [], ◌∷◌, length, refl, ap, sym, ◌∙◌, arith, IsTrue}
-use Rattle.std.specs.Prelude.{Option, Some, None, Result, Ok, Err}
-use Rattle.js_value.specs.declared.why.Why.{Why}
-use Rattle.js_tree.specs.declared.refusal.ReadRefused.TheVariants.{Unsupported}
+use Rattle.std.proofs.Common.{◌≡◌, ℕ, ◌*◌, ◌≤◌, List, [], ◌∷◌, length, refl, ap, sym, ◌∙◌, arith, IsTrue}
+use Rattle.std.specs.Prelude.{Option, Some, None, Ok, Err}
 use Rattle.js_tree.specs.declared.refusal.Feature.TheVariants.{NotBuilt}
 use Rattle.js_tree.specs.declared.statement.Script.{Script}
 use Rattle.js_tree.specs.Count.{nodes}
@@ -12,13 +10,11 @@ use Rattle.js_tree.specs.Residual.{is_residual, IsFresh, snapshot}
 use Rattle.js_tree.specs.Text.{script_text}
 use Rattle.js_machine.specs.Events.{Heap}
 use Rattle.js_machine.specs.Readable.{placed}
-use Rattle.js_machine.specs.Runs.{World, empty_world, Call, Ending, Outcome, Ended, Normal, Left, plain, opened, open_run}
+use Rattle.js_machine.specs.Runs.{World, empty_world, Call, Ending, Outcome, Ended, Normal, plain, opened, open_run}
 use Rattle.js_machine.specs.Listing.{listing, EndAlike}
-use Rattle.prepack_core.specs.declared.evaluate.Departure.{Departure}
 use Rattle.prepack_core.specs.declared.evaluate.Stop.{Stop}
 use Rattle.prepack_core.specs.declared.evaluate.Stop.TheVariants as stop
 use Rattle.prepack_core.specs.declared.report.Report.{Report}
-use Rattle.prepack_core.specs.declared.report.Report.TheVariants as report
 use Rattle.prepack_core.specs.Evaluates.{Evaluates}
 use Rattle.prepack_core.specs.Promises.{IsResidualOf, IsReason, IsReportOf, IsUnsupported}
 

@@ -1,8 +1,7 @@
 -- Arithmetic stays within the numbers of the profile.
-use Rattle.std.proofs.Common.{◌≡◌, Bool, true, false, cond, refl, ap, sym, ◌∙◌, subst, ℤ, ◌+ℤ◌, ◌-ℤ◌}
-use Rattle.std.specs.Prelude.{Result, Ok, Err}
+use Rattle.std.proofs.Common.{◌≡◌, Bool, true, false, cond, refl, subst, ℤ, ◌+ℤ◌, ◌-ℤ◌}
+use Rattle.std.specs.Prelude.{Ok, Err}
 use Rattle.js_value.specs.Numbers.{is_safe, within}
-use Rattle.js_value.specs.declared.why.Why.{Why}
 use Rattle.js_value.specs.declared.why.Why.TheVariants.{Unsafe}
 use Rattle.js_value.specs.declared.operator.BinaryOp.{BinaryOp}
 use Rattle.js_value.specs.declared.operator.BinaryOp.TheVariants as binary

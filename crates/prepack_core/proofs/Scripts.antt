@@ -1,11 +1,11 @@
 -- The run of a whole simple script.
-use Rattle.std.proofs.Common.{◌≡◌, ℕ, ◌+◌, ◌-◌, ◌<◌, ◌≤◌, Bool, true, List, [], ◌∷◌, ◌++◌, length, take, get_or, map, sum, refl, ap, sym, ◌∙◌, subst, arith, append-nil}
-use Rattle.std.specs.Prelude.{Result, Ok, Err, not, false, ◌&&◌}
+use Rattle.std.proofs.Common.{◌≡◌, ℕ, ◌+◌, ◌-◌, ◌<◌, ◌≤◌, Bool, true, List, [], ◌∷◌, ◌++◌, length, take, get_or, refl, ap, sym, ◌∙◌, arith, append-nil}
+use Rattle.std.specs.Prelude.{Ok, Err, not, false, ◌&&◌}
 use Rattle.std.specs.List.{list_all, flat_map}
 use Rattle.std.proofs.lemmas.List.{take_more}
 use Rattle.std.proofs.lemmas.List.Sums.{fold-append}
 use Rattle.std.proofs.lemmas.List.Concat.{flat_map-append}
-use Rattle.js_tree.specs.Count.{in_stmts, in_func, nodes}
+use Rattle.js_tree.specs.Count.{in_stmts, nodes}
 use Rattle.js_tree.specs.Simple.{declarators_in, declarators_of, declared_names, read_names, reads_declared}
 use Rattle.js_tree.specs.SimpleScripts.{is_simple, is_simple_statement, has_functions}
 use Rattle.js_tree.specs.declared.statement.Declarator.{Declarator}
@@ -14,11 +14,10 @@ use Rattle.js_tree.specs.declared.statement.StmtForm.{out-StmtForm}
 use Rattle.js_tree.specs.declared.statement.Script.{Script}
 use Rattle.js_machine.specs.Events.{Heap, Tree, End, declare}
 use Rattle.js_machine.specs.Simple.{in_turn, statement, declared, script_tree}
-use Rattle.js_machine.specs.Runs.{World, Left, Ended, Normal, walk, plain}
-use Rattle.prepack_core.specs.declared.evaluate.Departure.{Departure}
+use Rattle.js_machine.specs.Runs.{walk, plain}
 use Rattle.prepack_core.specs.declared.evaluate.Stop.{Stop}
 use Rattle.prepack_core.specs.declared.evaluate.Stop.TheVariants as stop
-use Rattle.prepack_core.specs.Evaluates.{Gives, Departs, RunsTo, Evaluates, declared_after, are_bound}
+use Rattle.prepack_core.specs.Evaluates.{Gives, RunsTo, Evaluates, declared_after, are_bound}
 use Rattle.prepack_core.proofs.Bound.{all_declared_bound}
 
 declarators_more : (body : List Stmt) (i : ℕ) (s : Stmt) → i < length body → s ≡ get_or body i s → declarators_of (take (i + 1) body) ≡ declarators_of (take i body) ++ declarators_in (out-StmtForm s.form)

@@ -1,5 +1,5 @@
 -- The parts of a sum.
-use Rattle.std.proofs.Common.{◌≡◌, ℕ, List, [], ◌∷◌, ◌++◌, Bool, true, false, refl, ap, sym, ◌∙◌, subst}
+use Rattle.std.proofs.Common.{◌≡◌, ℕ, List, [], Bool, true, false, refl, ap, sym, ◌∙◌, subst}
 use Rattle.std.specs.Prelude.{◌&&◌}
 use Rattle.std.specs.List.{list_all}
 use Rattle.std.proofs.lemmas.List.Folds.{list_all-append}
@@ -12,7 +12,7 @@ use Rattle.js_tree.specs.declared.expression.ExprForm.{ExprForm}
 use Rattle.js_tree.specs.declared.expression.ExprForm.TheVariants as form
 use Rattle.js_tree.specs.declared.expression.ExprForm.TheOpen.{ExprForm-F}
 use Rattle.js_tree.specs.Simple.{names_in, names_in_form}
-use Rattle.js_tree.specs.SimpleScripts.{Sum, NoSum, LiteralAlone, Terms, joined, negative, sum_form, sum_in}
+use Rattle.js_tree.specs.SimpleScripts.{Sum, NoSum, LiteralAlone, Terms, joined, sum_form, sum_in}
 use Rattle.js_tree.proofs.Folds.{fold-Binary, fold-Unary}
 use Rattle.prepack_core.specs.Evaluates.{is_sum, is_additive, form_sum, form_names}
 
@@ -58,7 +58,7 @@ operand_of_minus op a h = cc
 pub minus_parts : (f : ExprForm) (op : UnaryOp) (a : Expr) → f ≡ form.Unary op a → is_sum (form_sum f) ≡ true → (f ≡ form.Unary unary.Minus a) × (is_sum (sum_in a) ≡ true)
 minus_parts f op a same h =
     let p = operand_of_minus op (sum_in a)
-        (subst (λ (s : Sum). is_sum s ≡ true) (fold-Unary Sum (Unit {0}) Sum sum_form (λ f. tt) (λ e. e.form) op a) (subst (λ (g : ExprForm). is_sum (form_sum g) ≡ true) same h)) in
+    (subst (λ (s : Sum). is_sum s ≡ true) (fold-Unary Sum (Unit {0}) Sum sum_form (λ f. tt) (λ e. e.form) op a) (subst (λ (g : ExprForm). is_sum (form_sum g) ≡ true) same h)) in
     (same ∙ ap (λ (o : UnaryOp). form.Unary o a) p.0, p.1)
 
 pub names_of_minus : (p : List ℕ → Bool) (f : ExprForm) (op : UnaryOp) (a : Expr) → f ≡ form.Unary op a → list_all p (form_names f) ≡ true → list_all p (names_in a) ≡ true

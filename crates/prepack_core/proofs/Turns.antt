@@ -1,14 +1,14 @@
 -- A list of parts of a script, run in turn.
-use Rattle.std.proofs.Common.{◌≡◌, ℕ, ◌+◌, ◌<◌, ◌≤◌, suc, Bool, true, List, [], ◌∷◌, ◌++◌, length, take, drop, get_or, map, sum, refl, ap, sym, ◌∙◌, subst, arith, add_assoc, add-one, zero-add}
+use Rattle.std.proofs.Common.{◌≡◌, ℕ, ◌+◌, ◌<◌, ◌≤◌, suc, Bool, true, List, [], ◌∷◌, length, drop, get_or, map, sum, refl, ap, sym, ◌∙◌, add_assoc, add-one, zero-add}
 use Rattle.std.specs.Prelude.{◌&&◌, Err}
-use Rattle.std.specs.List.{list_all, flat_map, AllPass}
+use Rattle.std.specs.List.{list_all, flat_map}
 use Rattle.std.proofs.lemmas.List.Sums.{sum_by-cons, AllPass-from_list_all}
 use Rattle.std.proofs.lemmas.List.Folds.{list_all-append}
 use Rattle.std.proofs.Math.Seq.{drop-cons}
 use Rattle.std.proofs.Math.ListN.{drop_of_length-le}
 use Rattle.js_machine.specs.Events.{Heap, Tree, Run}
 use Rattle.js_machine.specs.Simple.{in_turn}
-use Rattle.js_machine.specs.Runs.{walk, Left}
+use Rattle.js_machine.specs.Runs.{walk}
 use Rattle.prepack_core.specs.declared.evaluate.Departure.{Departure}
 use Rattle.prepack_core.specs.declared.evaluate.Stop.{Stop}
 use Rattle.prepack_core.specs.declared.evaluate.Stop.TheVariants as stop

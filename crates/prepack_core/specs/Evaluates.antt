@@ -1,5 +1,5 @@
 -- What it means that code runs a part of a script, whatever comes after it.
-use Rattle.std.specs.Prelude.{◌≡◌, ℕ, ◌+◌, ◌≤◌, Result, Ok, Err, Bool, true, false, List, [], Option, Some, None, is_some, ℤ, fold}
+use Rattle.std.specs.Prelude.{◌≡◌, ℕ, ◌+◌, ◌≤◌, Result, Ok, Err, Bool, true, false, List, [], is_some, ℤ, fold}
 use Rattle.std.specs.List.{list_all, flat_map}
 use Rattle.js_value.specs.Numbers.{added, subtracted}
 use Rattle.js_value.specs.declared.operator.BinaryOp.{BinaryOp}

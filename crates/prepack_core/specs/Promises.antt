@@ -1,5 +1,5 @@
 -- What the program promises of a source and of what it writes for it.
-use Rattle.std.specs.Prelude.{◌≡◌, ℕ, Bool, List, [], Result, Ok, Err, IsTrue, All, Contains, codes}
+use Rattle.std.specs.Prelude.{◌≡◌, ℕ, Bool, List, [], Ok, Err, IsTrue, All, Contains, codes}
 use Rattle.js_value.specs.declared.place.Place.{Place}
 use Rattle.js_value.specs.declared.primitive.Primitive.{Primitive}
 use Rattle.js_value.specs.declared.primitive.Primitive.TheVariants as primitive
@@ -12,7 +12,7 @@ use Rattle.js_tree.specs.Simple.{reads, declared_names}
 use Rattle.js_tree.specs.Residual.{is_residual, IsFresh, snapshot}
 use Rattle.js_tree.specs.Text.{script_text}
 use Rattle.js_machine.specs.Events.{Heap}
-use Rattle.js_machine.specs.Runs.{World, IsTyped, Call, Outcome, Ended, Normal, plain, Opened, OpenEnded, Stopped, Leaves, open_run, IsWhole, EndsOrWants}
+use Rattle.js_machine.specs.Runs.{World, IsTyped, Call, Ended, Normal, plain, OpenEnded, Stopped, Leaves, open_run, IsWhole, EndsOrWants}
 use Rattle.js_machine.specs.Listing.{Row, listing, IsLeft, EndAlike}
 use Rattle.prepack_core.specs.declared.evaluate.Stop.{Stop}
 use Rattle.prepack_core.specs.declared.evaluate.Stop.TheVariants as stop

@@ -4,8 +4,8 @@ ghost use Rattle.std.specs.Prelude.{◌≤◌, length, IfOk, IfErr};
 ghost use Rattle.prepack_core.specs.Promises.{IsResidualOf, IsReason, IsReportOf};
 
 use crate::evaluate::{Stop, evaluate};
-use crate::residual::residual_text;
 use crate::report::Report;
+use crate::residual::residual_text;
 use js_machine::snapshot_law;
 use js_tree::Feature;
 use js_value::{NoMemory, Place};

@@ -129,7 +129,11 @@ fn value_of_form(form: &ExprForm, at: Place, variables: &Variables) -> Result<Va
 }
 
 /// Assigns the value of an initialiser, where there is one (12.2).
-fn run_declarator(alloc: Global, declarator: &Declarator, variables: &mut Variables) -> Result<(), Stop>
+fn run_declarator(
+    alloc: Global,
+    declarator: &Declarator,
+    variables: &mut Variables,
+) -> Result<(), Stop>
     requires simple { IsTrue (is_simple_declarator declarator.now) }
     requires bound { IsTrue (spec.are_bound variables.old (names_in_init declarator.now.init)) }
     ensures runs { spec.RunsTo (declarator_rule declarator.now.name declarator.now.init) variables.old (count.in_maybe declarator.now.init) result variables.new }
@@ -144,7 +148,11 @@ fn run_declarator(alloc: Global, declarator: &Declarator, variables: &mut Variab
 }
 
 /// Runs the declarators of one `var` in turn.
-fn run_declarators(alloc: Global, declarators: &[Declarator], variables: &mut Variables) -> Result<(), Stop>
+fn run_declarators(
+    alloc: Global,
+    declarators: &[Declarator],
+    variables: &mut Variables,
+) -> Result<(), Stop>
     requires simple { IsTrue (list_all is_simple_declarator declarators.now) }
     requires bound { IsTrue (spec.are_bound variables.old (spec.names_in_declarators declarators.now)) }
     ensures runs { spec.RunsTo (declarators_rule declarators.now) variables.old (count.in_declarators declarators.now) result variables.new }
@@ -177,7 +185,11 @@ fn run_statement(alloc: Global, statement: &Stmt, variables: &mut Variables) -> 
 }
 
 /// Binds the names of some declarators that aren't bound yet to undefined.
-fn declare_names(alloc: Global, declarators: &[Declarator], variables: &mut Variables) -> Result<(), NoMemory>
+fn declare_names(
+    alloc: Global,
+    declarators: &[Declarator],
+    variables: &mut Variables,
+) -> Result<(), NoMemory>
     requires { IsTrue (list_all is_simple_declarator declarators.now) }
     ensures { OnOk result (variables.new ≡ spec.declared_after variables.old (flat_map (λ d. d.name ∷ []) declarators.now)) }
 {

@@ -145,7 +145,14 @@ fn write_place<K: Sink>(sink: &mut K, front: &[u8], at: Place) -> bool
 }
 
 /// Writes `front`, a place, `middle`, a name and `end`, as far as the sink takes them.
-fn tell_place<K: Sink>(sink: &mut K, front: &[u8], at: Place, middle: &[u8], name: &[u8], end: &[u8])
+fn tell_place<K: Sink>(
+    sink: &mut K,
+    front: &[u8],
+    at: Place,
+    middle: &[u8],
+    name: &[u8],
+    end: &[u8],
+)
     ensures { IsAppended (K.held sink.old) (K.held sink.new) (K.faults sink.old) (K.faults sink.new) (spec.place_line front.now at middle.now name.now end.now) }
 {
     if !write_place(sink, front, at) {

@@ -1,7 +1,6 @@
 ghost use Rattle.std.specs.Prelude.{IsTrue};
 ghost use Rattle.js_value.specs.Numbers.{is_safe};
 
-
 /// A number of the profile, from -(2^53 - 1) to 2^53 - 1.
 #[derive(Clone, Copy, Debug)]
 pub struct Number {

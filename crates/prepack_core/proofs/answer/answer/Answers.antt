@@ -1,4 +1,4 @@
-use Rattle.std.proofs.Common.{◌≡◌, ◌≤◌, ap, sym, ◌∙◌, length}
+use Rattle.std.proofs.Common.{sym, ◌∙◌, length}
 use Rattle.js_tree.specs.Count.{nodes}
 use Rattle.prepack_core.proofs.Promising.{few_steps, reads-simple, reads-not_simple, residual_of, reason_of}
 use Rattle.prepack_core.proofs.answer.answer.Goals as goal

@@ -1,4 +1,4 @@
-use Rattle.std.proofs.Common.{◌≡◌, ap, sym, ◌∙◌, rules}
+use Rattle.std.proofs.Common.{sym, rules}
 use Rattle.std.proofs.lemmas.Result.{err_from_is_err_and}
 use Rattle.js_tree.specs.declared.expression.ExprForm.TheViews.{the_lemmas}
 use Rattle.prepack_core.specs.Evaluates as spec
@@ -13,10 +13,13 @@ pub value_of_form-returns-in-Some : goal.value_of_form-returns-in-Some
 value_of_form-returns-in-Some t c = name_comes c.args.form.now c.in-Name.name c.args.at c.args.variables.now c.in-Some.value c.in-Name.is (sym c.in-Some.ensures)
 
 pub value_of_form-value_of-requires : goal.value_of_form-value_of-requires
-value_of_form-value_of-requires t c =
-    (search (rules, the_lemmas),
-    ((minus_parts c.args.form.now c.in-Unary.field-0 c.in-Unary.a c.in-Unary.is c.requires.sum).1,
-    names_of_minus (spec.is_bound c.args.variables.now) c.args.form.now c.in-Unary.field-0 c.in-Unary.a c.in-Unary.is c.requires.bound))
+value_of_form-value_of-requires t c = (
+  search (rules, the_lemmas),
+  (
+    (minus_parts c.args.form.now c.in-Unary.field-0 c.in-Unary.a c.in-Unary.is c.requires.sum).1,
+    names_of_minus (spec.is_bound c.args.variables.now) c.args.form.now c.in-Unary.field-0 c.in-Unary.a c.in-Unary.is c.requires.bound,
+  ),
+)
 
 pub value_of_form-returns-in_err-value_of-in-Unary : goal.value_of_form-returns-in_err-value_of-in-Unary
 value_of_form-returns-in_err-value_of-in-Unary t c =
@@ -31,16 +34,22 @@ value_of_form-returns-in_ok-value_of-in-Unary t c =
     c.in_ok-value_of-in-Unary.ensures (c.negation.ensures c.args.variables.now)
 
 pub value_of_form-value_of-requires-in-Binary : goal.value_of_form-value_of-requires-in-Binary
-value_of_form-value_of-requires-in-Binary t c =
-    (search (rules, the_lemmas),
-    ((sum_parts c.args.form.now c.in-Binary.op c.in-Binary.a c.in-Binary.b c.in-Binary.is c.requires.sum).1,
-    (names_parts (spec.is_bound c.args.variables.now) c.args.form.now c.in-Binary.op c.in-Binary.a c.in-Binary.b c.in-Binary.is c.requires.bound).0))
+value_of_form-value_of-requires-in-Binary t c = (
+  search (rules, the_lemmas),
+  (
+    (sum_parts c.args.form.now c.in-Binary.op c.in-Binary.a c.in-Binary.b c.in-Binary.is c.requires.sum).1,
+    (names_parts (spec.is_bound c.args.variables.now) c.args.form.now c.in-Binary.op c.in-Binary.a c.in-Binary.b c.in-Binary.is c.requires.bound).0,
+  ),
+)
 
 pub value_of_form-value_of-requires-in-Binary-2 : goal.value_of_form-value_of-requires-in-Binary-2
-value_of_form-value_of-requires-in-Binary-2 t c =
-    (search (rules, the_lemmas),
-    ((sum_parts c.args.form.now c.in-Binary.op c.in-Binary.a c.in-Binary.b c.in-Binary.is c.requires.sum).2,
-    (names_parts (spec.is_bound c.args.variables.now) c.args.form.now c.in-Binary.op c.in-Binary.a c.in-Binary.b c.in-Binary.is c.requires.bound).1))
+value_of_form-value_of-requires-in-Binary-2 t c = (
+  search (rules, the_lemmas),
+  (
+    (sum_parts c.args.form.now c.in-Binary.op c.in-Binary.a c.in-Binary.b c.in-Binary.is c.requires.sum).2,
+    (names_parts (spec.is_bound c.args.variables.now) c.args.form.now c.in-Binary.op c.in-Binary.a c.in-Binary.b c.in-Binary.is c.requires.bound).1,
+  ),
+)
 
 pub value_of_form-returns-in_err-x-in-Binary : goal.value_of_form-returns-in_err-x-in-Binary
 value_of_form-returns-in_err-x-in-Binary t c =

@@ -1,4 +1,3 @@
-use Rattle.std.proofs.Common.{◌≡◌}
 use Rattle.js_tree.specs.Count.{in_stmt}
 use Rattle.js_machine.specs.Simple.{statement}
 use Rattle.prepack_core.specs.Evaluates.{KeepsBound}

@@ -1,9 +1,7 @@
-use Rattle.std.proofs.Common.{◌≡◌, ap, sym, ◌∙◌}
 use Rattle.std.proofs.lemmas.Result.{err_from_is_err_and}
-use Rattle.prepack_core.specs.Evaluates as spec
 use Rattle.prepack_core.specs.Values.{primitive_of}
 use Rattle.prepack_core.proofs.Evaluating.{declarator_without, declarator_departs, declarator_runs}
-use Rattle.prepack_core.proofs.Bound.{keeps_same, keeps-put}
+use Rattle.prepack_core.proofs.Bound.{keeps-put}
 use Rattle.prepack_core.proofs.evaluate.run_declarator.Goals as goal
 
 pub returns-in_default-clause-runs : goal.returns-in_default-clause-runs

@@ -1,4 +1,4 @@
-use Rattle.std.proofs.Common.{◌≡◌, ◌<◌, ◌^◌, get_or, arith, length, ap, rules}
+use Rattle.std.proofs.Common.{◌<◌, get_or, rules}
 use Rattle.prepack_core.proofs.Listed.{name_small}
 use Rattle.prepack_core.proofs.residual.push_name.Goals as goal
 

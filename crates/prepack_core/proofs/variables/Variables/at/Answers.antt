@@ -1,4 +1,4 @@
-use Rattle.std.proofs.Common.{◌≡◌, ap, sym, ◌∙◌}
+use Rattle.std.proofs.Common.{ap, sym, ◌∙◌}
 use Rattle.std.specs.Prelude.{slice_get}
 use Rattle.js_tree.specs.SimpleTokens.{is_simple_name}
 use Rattle.prepack_core.proofs.Bindings.{all-at}

@@ -1,7 +1,4 @@
-use Rattle.std.proofs.Common.{◌≡◌, ap, sym, ◌∙◌}
-use Rattle.std.specs.List.{IsDistinct}
-use Rattle.std.specs.Map.{keys_of}
-use Rattle.std.specs.Str.{bytes_eq}
+use Rattle.std.proofs.Common.{ap, sym, ◌∙◌}
 use Rattle.js_machine.specs.Readable.{is_readable}
 use Rattle.prepack_core.proofs.Bindings.{shown-readable, keys-shown}
 use Rattle.prepack_core.proofs.variables.Variables.len.Goals as goal
