@@ -113,7 +113,7 @@ punctuator at (Some p, n) = token (form.Punctuator p) n
 
 -- 2^53 - 1
 abbrev pub greatest : ℕ
-greatest = 9007199254740991
+greatest = greatest_magnitude
 
 -- the number that digits spell
 abbrev pub value : ℕ → List ℕ → ℕ

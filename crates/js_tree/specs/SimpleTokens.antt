@@ -5,6 +5,7 @@ use Rattle.std.specs.List.{list_all, list_any, prefix_len}
 use Rattle.std.specs.Option.{option_map, option_to_list}
 use Rattle.std.specs.Str.{bytes_eq}
 use Rattle.std.specs.Str.Parse.{digits_value}
+use Rattle.js_value.specs.Numbers.{greatest_magnitude}
 pub use Rattle.js_tree.specs.Refusals.{place}
 use Rattle.js_tree.specs.declared.simple.SimpleToken.{SimpleToken}
 use Rattle.js_tree.specs.declared.simple.SimpleToken.TheVariants.{Var, Name, Number, Minus, Plus, Equals, Comma, Semicolon}
@@ -35,9 +36,9 @@ word_token at word =
     if bytes_eq word (codes "var") then Some (Var (place at))
     else (if is_taken word then None else Some (Name (place at) word))
 
--- the greatest value of a literal, 2^53 - 1
+-- the greatest value of a literal
 abbrev pub greatest_literal : ℕ
-greatest_literal = 9007199254740991
+greatest_literal = greatest_magnitude
 
 abbrev pub has_leading_zero : List ℕ → Bool
 has_leading_zero digits = slice_index digits 0 == 48 && nat_lt 1 (length digits)

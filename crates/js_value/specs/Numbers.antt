@@ -1,11 +1,15 @@
 -- The whole numbers of the profile, from -(2^53 - 1) to 2^53 - 1, and arithmetic that leaves it where a result isn't one.
-use Rattle.std.specs.Prelude.{ℤ, pos, ◌+ℤ◌, ◌-ℤ◌, neg_ℤ, int_le, Bool, ◌&&◌, if◌then◌else◌, Option, Some, None, Result, Ok, Err}
+use Rattle.std.specs.Prelude.{ℕ, ℤ, pos, ◌+ℤ◌, ◌-ℤ◌, neg_ℤ, int_le, Bool, ◌&&◌, if◌then◌else◌, Option, Some, None, Result, Ok, Err}
 use Rattle.std.specs.Ordering.{int_eq}
 use Rattle.js_value.specs.declared.why.Why.{Why}
 use Rattle.js_value.specs.declared.why.Why.TheVariants.{Unsafe, MinusZero}
 
+-- 2^53 - 1
+abbrev pub greatest_magnitude : ℕ
+greatest_magnitude = 9007199254740991
+
 abbrev pub greatest : ℤ
-greatest = pos 9007199254740991
+greatest = pos greatest_magnitude
 
 abbrev pub is_safe : ℤ → Bool
 is_safe n = int_le (neg_ℤ greatest) n && int_le n greatest
