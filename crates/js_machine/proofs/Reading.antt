@@ -17,7 +17,7 @@ use Rattle.js_tree.specs.declared.statement.StmtForm.TheVariants.{outs-Var}
 use Rattle.js_tree.specs.declared.simple.SimpleToken.{SimpleToken}
 use Rattle.js_tree.specs.declared.simple.SimpleToken.TheVariants as token
 use Rattle.js_tree.specs.SimpleTokens.{place, tokens}
-use Rattle.js_tree.specs.Simple.{◌>>=◌, each, terms, sum, literal, minus, declarator_of, declarator, is_comma, is_semicolon, var_at, var_statement, is_ended, body, names_in_form, names_in, names_in_init, declarators_in, declarators_of, declared_names, read_names, is_among, reads_declared, script_of, if_closed, simple_script, or_not_built, reads}
+use Rattle.js_tree.specs.Simple.{◌>>=◌, each, terms, sum, literal, minus, declarator_of, declarator, is_comma, is_semicolon, var_at, var_statement, is_ended, body, names_in_form, names_in, names_in_init, declarators_in, declarators_of, declared_names, read_names, is_among, reads_declared, script_of, if_declared, simple_script, or_not_built, reads}
 use Rattle.js_tree.specs.Residual.{is_number, is_primitive, is_constant, is_variables, is_residual, snapshot}
 use Rattle.js_tree.specs.Text.{script_text}
 use Rattle.js_machine.proofs.Forms.{fold-literal, fold-minus}
@@ -187,8 +187,8 @@ unfolding placed
 simple_script-snapshot [] readable = simple_script-nothing
 simple_script-snapshot (v ∷ vs) readable =
     let s = var_at (place 0) (variables_at 4 (v ∷ vs)) in
-    ap (λ o. o >>= (λ ts. body ts >>= if_closed)) (tokens-snapshot v vs readable)
-    ∙ ap (λ o. o >>= if_closed) (body-variables v vs)
+    ap (λ o. o >>= (λ ts. body ts >>= if_declared)) (tokens-snapshot v vs readable)
+    ∙ ap (λ o. o >>= if_declared) (body-variables v vs)
     ∙ ap (λ b. if b then Some (script_of (s ∷ [])) else None) (reads_declared-variables (v ∷ vs) (place 0) 4)
 
 -- the residual of variables reads back

@@ -18,9 +18,9 @@ use Rattle.js_tree.specs.declared.statement.StmtForm.TheOpen.{StmtForm-F, Case-F
 use Rattle.js_tree.specs.declared.statement.Func.{Func}
 use Rattle.js_tree.specs.declared.statement.Script.{Script}
 
-abbrev pub or_none : Option ℕ → ℕ
-or_none None = 0
-or_none (Some n) = n
+abbrev pub or_zero : Option ℕ → ℕ
+or_zero None = 0
+or_zero (Some n) = n
 
 -- ---- each expression counts one, and what its parts count
 
@@ -28,7 +28,7 @@ abbrev pub of_form : ExprForm-F ℕ ℕ ℕ → ℕ
 of_form ExprForm-F.This = 0
 of_form (ExprForm-F.Name text) = 0
 of_form (ExprForm-F.Literal value) = 0
-of_form (ExprForm-F.ArrayLit items) = sum (map or_none items)
+of_form (ExprForm-F.ArrayLit items) = sum (map or_zero items)
 of_form (ExprForm-F.ObjectLit fields) = sum fields
 of_form (ExprForm-F.Func f) = 0
 of_form (ExprForm-F.Member object key) = object
@@ -95,7 +95,7 @@ of_stmt_form (StmtForm-F.FuncDecl f) = 0
 of_stmt_form (StmtForm-F.Eval e) = in_expr e
 of_stmt_form (StmtForm-F.Block body) = sum body
 of_stmt_form StmtForm-F.Empty = 0
-of_stmt_form (StmtForm-F.If test a b) = in_expr test + a + or_none b
+of_stmt_form (StmtForm-F.If test a b) = in_expr test + a + or_zero b
 of_stmt_form (StmtForm-F.DoWhile body test) = body + in_expr test
 of_stmt_form (StmtForm-F.While test body) = in_expr test + body
 of_stmt_form (StmtForm-F.For from test step body) = in_start from + in_maybe test + in_maybe step + body
@@ -105,7 +105,7 @@ of_stmt_form StmtForm-F.Break = 0
 of_stmt_form (StmtForm-F.Return e) = in_maybe e
 of_stmt_form (StmtForm-F.Switch e cases) = in_expr e + sum cases
 of_stmt_form (StmtForm-F.Throw e) = in_expr e
-of_stmt_form (StmtForm-F.Try body handler final) = sum body + or_none handler + or_none final
+of_stmt_form (StmtForm-F.Try body handler final) = sum body + or_zero handler + or_zero final
 
 abbrev pub of_case : Case-F ℕ ℕ ℕ ℕ ℕ → ℕ
 of_case c = in_maybe c.test + sum c.body

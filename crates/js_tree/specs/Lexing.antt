@@ -1,5 +1,6 @@
 -- Tokens of a text (7): what stands at each place is the longest that begins there, and the first fault is answered.
 use Rattle.std.specs.Prelude.{◌==◌, ◌&&◌, ◌||◌, ◌+◌, ◌-◌, ◌*◌, ℕ, zero, suc, pos, Bool, true, false, not, nat_eq, nat_lt, if◌then◌else◌, List, [], ◌∷◌, ◌++◌, length, map, take, drop, fold, slice_index, sum_by, codes, Option, Some, None, Result, Ok, Err}
+use Rattle.js_value.specs.Numbers.{greatest_magnitude}
 use Rattle.std.specs.Char.{digit_value, is_ascii_digit, is_ascii_hexdigit, len_utf8}
 use Rattle.std.specs.Char.Escape.{encode_utf16}
 use Rattle.std.specs.Cmp.Lexicographic.{pointwise}

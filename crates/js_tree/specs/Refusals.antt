@@ -8,7 +8,7 @@ use Rattle.js_tree.specs.declared.refusal.ReadRefused.TheVariants.{Syntax, Unsup
 abbrev pub place : ℕ → Place
 place at = record { 0 = at }
 
--- the two refusals that a text itself gives, at a byte of it
+-- two of the refusals, at a byte of the text
 abbrev pub syntax : {A : Type 0} → ℕ → Result A ReadRefused
 syntax at = Err (Syntax (place at))
 

@@ -164,15 +164,15 @@ reads_declared ss = list_all (is_among (declared_names ss)) (read_names ss)
 abbrev pub script_of : List Stmt → Script
 script_of ss = record { directive = false; body = ss; funcs = [] }
 
-abbrev pub if_closed : List Stmt → Option Script
-if_closed ss = if reads_declared ss then Some (script_of ss) else None
+abbrev pub if_declared : List Stmt → Option Script
+if_declared ss = if reads_declared ss then Some (script_of ss) else None
 
 -- the script of a simple text
 abbrev pub simple_script : List ℕ → Option Script
 simple_script text = do
   ts ← tokens text
   ss ← body ts
-  if_closed ss
+  if_declared ss
 
 abbrev pub or_not_built : Option Script → Result Script ReadRefused
 or_not_built None = Err (Unsupported (place 0) NotBuilt)

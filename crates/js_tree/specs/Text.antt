@@ -40,6 +40,7 @@ literal_text (primitive.Boolean b) = if b then codes "true" else codes "false"
 literal_text (primitive.Number n) = signed_decimal n
 literal_text (primitive.Text units) = quoted units
 
+-- A simple name is ASCII: its units are its bytes.
 abbrev pub print_form : ExprForm-F Printed Printed Printed → Printed
 print_form (ExprForm-F.Literal value) = printed 17 (literal_text value)
 print_form (ExprForm-F.Name name) = printed 17 name
