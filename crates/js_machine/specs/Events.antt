@@ -11,6 +11,7 @@ use Rattle.js_value.specs.declared.why.Why.{Why}
 abbrev pub Heap : Type 0
 Heap = List (List ℕ × Primitive)
 
+-- what a run does: its events in order
 pub data Tree : Type 0 where
   -- the evaluation of a node begins
   Step : Place → Tree → Tree

@@ -29,7 +29,7 @@ IsLeft (Left why at) = Unit {0}
 IsLeft _ = ⊥
 
 -- both ended, with the same host calls, the same completion, and equal listings
-abbrev pub EndAlike : Outcome → Outcome → Type 0
-EndAlike (Ended calls ending heap) (Ended calls2 ending2 heap2) =
-    (calls2 ≡ calls) × (ending2 ≡ ending) × (listing heap2 ≡ listing heap)
-EndAlike _ _ = ⊥
+abbrev pub Agree : Outcome → Outcome → Type 0
+Agree (Ended calls ending heap) (Ended other_calls other_ending other_heap) =
+    (other_calls ≡ calls) × (other_ending ≡ ending) × (listing other_heap ≡ listing heap)
+Agree _ _ = ⊥

@@ -24,6 +24,14 @@ empty_world = record { inputs = []; answers = [] }
 abbrev pub input_forms : Script → List (List ℕ × Kind)
 input_forms s = []
 
+-- its host call forms; a simple script has none
+abbrev pub host_call_forms : Script → List (List ℕ × Kind)
+host_call_forms s = []
+
+-- neither inputs nor host calls
+abbrev pub IsClosed : Script → Type 0
+IsClosed s = (input_forms s ≡ []) × (host_call_forms s ≡ [])
+
 abbrev pub IsOfKind : Kind → Primitive → Type 0
 IsOfKind kind.Number value = (n : _) × (value ≡ primitive.Number n)
 IsOfKind kind.Boolean value = (b : _) × (value ≡ primitive.Boolean b)
@@ -95,6 +103,11 @@ open_run s choices n = opened (plain s empty_world n)
 -- the run took all its choices; one that meets no test takes none
 abbrev pub IsWhole : Script → List Bool → ℕ → Type 0
 IsWhole s choices n = choices ≡ []
+
+-- The tree of the open runs has at most so many steps, and each of them ends or wants a choice. That of a script without inputs and
+-- host calls has one run.
+abbrev pub EndsWithin : Script → ℕ → Type 0
+EndsWithin s n = open_run s [] n ≡ OpenEnded
 
 abbrev pub EndsOrWants : Opened → Type 0
 EndsOrWants OpenEnded = Unit {0}

@@ -17,10 +17,15 @@ ghost use Rattle.js_machine.specs.Readable.{is_readable, placed, variables_text}
 
 /// The residual of readable variables reads back, is in residual form, and rebuilds them: a law, with nothing to run.
 pub fn snapshot_law()
-    ensures reads_back { (vs : List (List ℕ × Primitive)) (limit : ℕ) → IsTrue (is_readable vs) → reads (script_text (snapshot vs)) limit ≡ Ok (placed vs) }
-    ensures spelled { (vs : List (List ℕ × Primitive)) → IsTrue (is_readable vs) → script_text (snapshot vs) ≡ variables_text vs }
+    ensures reads_back { (vs : List (List ℕ × Primitive)) (limit : ℕ) → IsTrue (is_readable vs) →
+        reads (script_text (snapshot vs)) limit ≡ Ok (placed vs) }
+    ensures spelled { (vs : List (List ℕ × Primitive)) → IsTrue (is_readable vs) →
+        script_text (snapshot vs) ≡ variables_text vs }
     ensures residual { (vs : List (List ℕ × Primitive)) → IsTrue (is_residual (placed vs)) }
     ensures fresh { (vs : List (List ℕ × Primitive)) (s : Script) → IsFresh (placed vs) s }
-    ensures same_text { (vs : List (List ℕ × Primitive)) → IsTrue (is_readable vs) → script_text (placed vs) ≡ script_text (snapshot vs) }
-    ensures rebuilds { (vs : List (List ℕ × Primitive)) (w : World) → IsTrue (is_readable vs) → IsDistinct bytes_eq (keys_of vs) → plain (placed vs) w (nodes (placed vs)) ≡ Ended [] Normal vs }
+    ensures same_text { (vs : List (List ℕ × Primitive)) → IsTrue (is_readable vs) →
+        script_text (placed vs) ≡ script_text (snapshot vs) }
+    ensures rebuilds { (vs : List (List ℕ × Primitive)) (w : World) → IsTrue (is_readable vs) →
+        IsDistinct bytes_eq (keys_of vs) → plain (placed vs) w (nodes (placed vs)) ≡ Ended [] Normal
+        vs }
 {}

@@ -11,15 +11,15 @@ use Rattle.js_tree.specs.Text.{script_text}
 use Rattle.js_machine.specs.Events.{Heap}
 use Rattle.js_machine.specs.Readable.{placed}
 use Rattle.js_machine.specs.Runs.{World, empty_world, Call, Ending, Outcome, Ended, Normal, plain, opened, open_run}
-use Rattle.js_machine.specs.Listing.{listing, EndAlike}
+use Rattle.js_machine.specs.Listing.{listing, Agree}
 use Rattle.prepack_core.specs.declared.evaluate.Stop.{Stop}
 use Rattle.prepack_core.specs.declared.evaluate.Stop.TheVariants as stop
 use Rattle.prepack_core.specs.declared.report.Report.{Report}
-use Rattle.prepack_core.specs.Evaluates.{Evaluates}
-use Rattle.prepack_core.specs.Promises.{IsResidualOf, IsReason, IsReportOf, IsUnsupported}
+use Rattle.prepack_core.specs.Evaluates.{Evaluates, IsReportOf}
+use Rattle.prepack_core.specs.Promises.{IsResidualOf, IsReason, IsUnsupported}
 
 -- a source within the limit has fewer nodes than the least budget
-pub few_steps : (nodes length steps : ℕ) → 63 * nodes ≤ 60 * length → length ≤ 1048576 → 1000000 ≤ steps → nodes ≤ steps
+pub few_steps : (nodes length steps : ℕ) → 21 * nodes ≤ 20 * length → length ≤ 1048576 → 1000000 ≤ steps → nodes ≤ steps
 few_steps nodes length steps few short enough = omega arith
 
 pub reads-simple : (source : List ℕ) (limit : ℕ) (found : Option Script) (s : Script) → found ≡ simple_script source → found ≡ Some s → reads source limit ≡ Ok s
@@ -37,8 +37,8 @@ no_row : (heap : Heap) → listing heap ≡ [] → heap ≡ []
 no_row [] none = refl
 no_row (p ∷ ps) none = cc
 
-ends_alike : (a b : Outcome) (heap : Heap) → a ≡ Ended [] Normal heap → b ≡ Ended [] Normal heap → EndAlike a b
-ends_alike a b heap x y = rw (x, y) (refl, refl, refl)
+both_end : (a b : Outcome) (heap : Heap) → a ≡ Ended [] Normal heap → b ≡ Ended [] Normal heap → Agree a b
+both_end a b heap x y = rw (x, y) (refl, refl, refl)
 
 pub residual_of : (n : ℕ) (source text : List ℕ) (s : Script) (vs : Heap) → reads source 200 ≡ Ok s → nodes s ≤ n → Evaluates s (Ok vs) → text ≡ script_text (snapshot vs)
     → reads (script_text (snapshot vs)) 1024 ≡ Ok (placed vs) → IsTrue (is_residual (placed vs)) → IsFresh (placed vs) s → script_text (placed vs) ≡ script_text (snapshot vs)
@@ -52,10 +52,10 @@ residual_of n source text s vs read enough runs e back form fresh same rebuilds 
   form = form;
   fresh = fresh;
   text = e ∙ sym same;
-  alike = λ w typed stays. ends_alike (plain s w n) (plain (placed vs) w (nodes (placed vs))) vs (runs w n enough) (rebuilds w);
+  alike = λ w typed stays. both_end (plain s w n) (plain (placed vs) w (nodes (placed vs))) vs (runs w n enough) (rebuilds w);
   paths = λ choices. rw (runs empty_world n enough) tt;
-  variables = λ w calls heap ran are has. e ∙ ap (λ h. script_text (snapshot h)) (same_heap [] calls Normal Normal vs heap (sym (runs w n enough) ∙ ran));
-  nothing = λ w calls heap ran none. e ∙ ap (λ h. script_text (snapshot h)) (same_heap [] calls Normal Normal vs heap (sym (runs w n enough) ∙ ran) ∙ no_row heap none);
+  variables = λ closed w calls heap ran are has. e ∙ ap (λ h. script_text (snapshot h)) (same_heap [] calls Normal Normal vs heap (sym (runs w n enough) ∙ ran));
+  nothing = λ closed w calls heap ran none. e ∙ ap (λ h. script_text (snapshot h)) (same_heap [] calls Normal Normal vs heap (sym (runs w n enough) ∙ ran) ∙ no_row heap none);
 }
 
 pub reason_of : (n : ℕ) (source : List ℕ) (s : Script) (stopped : Stop) (r : Report) → reads source 200 ≡ Ok s → nodes s ≤ n → Evaluates s (Err stopped) → IsReportOf stopped r → IsReason n source r

@@ -23,6 +23,8 @@ use Rattle.js_tree.specs.declared.statement.Script.{Script}
 use Rattle.prepack_core.specs.declared.evaluate.Departure.{Departure}
 use Rattle.prepack_core.specs.declared.evaluate.Stop.{Stop}
 use Rattle.prepack_core.specs.declared.evaluate.Stop.TheVariants as stop
+use Rattle.prepack_core.specs.declared.report.Report.{Report}
+use Rattle.prepack_core.specs.declared.report.Report.TheVariants as report
 use Rattle.prepack_core.specs.Values.{primitive_of}
 
 -- after so many steps the run goes on with this answer, at this heap
@@ -95,3 +97,8 @@ abbrev pub Evaluates : Script → Result Heap Stop → Type 0
 Evaluates s (Ok heap) = (w : World) (n : ℕ) → nodes s ≤ n → plain s w n ≡ Ended [] Normal heap
 Evaluates s (Err (stop.Left d)) = (w : World) (n : ℕ) → nodes s ≤ n → plain s w n ≡ Left d.why d.at
 Evaluates s (Err stop.NoMemory) = Unit {0}
+
+-- the report of a run that stopped
+abbrev pub IsReportOf : Stop → Report → Type 0
+IsReportOf (stop.Left d) r = r ≡ report.Stuck d.at d.why
+IsReportOf stop.NoMemory r = r ≡ report.NoMemory

@@ -28,11 +28,11 @@ Replies old new Failed = new ≡ old
 Replies old new NoMemory = (new ≡ old) ⊎ ((value : Primitive) × (old ≡ before_answers value new))
 
 -- the numbers of later calls, after one more
-abbrev pub lowered : List ℕ → List ℕ
-lowered [] = []
-lowered (n ∷ ns) = if n == 1 then lowered ns else (n - 1) ∷ lowered ns
+abbrev pub numbers_after_call : List ℕ → List ℕ
+numbers_after_call [] = []
+numbers_after_call (n ∷ ns) = if n == 1 then numbers_after_call ns else (n - 1) ∷ numbers_after_call ns
 
--- a call failed exactly where it was told, and only where the count of faults rose
+-- a call failed only where the count of faults rose
 abbrev pub CallHasCause : ℕ → ℕ → Reply → Type 0
 CallHasCause before now Failed = Rose before now
 CallHasCause before now (Given value) = ⊤

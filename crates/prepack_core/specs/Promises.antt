@@ -12,10 +12,8 @@ use Rattle.js_tree.specs.Simple.{reads, declared_names}
 use Rattle.js_tree.specs.Residual.{is_residual, IsFresh, snapshot}
 use Rattle.js_tree.specs.Text.{script_text}
 use Rattle.js_machine.specs.Events.{Heap}
-use Rattle.js_machine.specs.Runs.{World, IsTyped, Call, Ended, Normal, plain, OpenEnded, Stopped, Leaves, open_run, IsWhole, EndsOrWants}
-use Rattle.js_machine.specs.Listing.{Row, listing, IsLeft, EndAlike}
-use Rattle.prepack_core.specs.declared.evaluate.Stop.{Stop}
-use Rattle.prepack_core.specs.declared.evaluate.Stop.TheVariants as stop
+use Rattle.js_machine.specs.Runs.{World, IsClosed, IsTyped, Call, Ended, Normal, plain, Stopped, Leaves, open_run, IsWhole, EndsWithin, EndsOrWants}
+use Rattle.js_machine.specs.Listing.{Row, listing, IsLeft, Agree}
 use Rattle.prepack_core.specs.declared.report.Report.{Report}
 use Rattle.prepack_core.specs.declared.report.Report.TheVariants as report
 
@@ -40,13 +38,14 @@ pub record IsResidualOf (n : ℕ) (source written : List ℕ) : Type 0 where
   pub text : written ≡ script_text residual
   -- In every world in which the source's run doesn't leave the profile, both end, with the same host calls, the same completion
   -- and equal listings. The residual takes no more steps than it has nodes.
-  pub alike : (w : World) → IsTyped w script → (IsLeft (plain script w n) → ⊥) → EndAlike (plain script w n) (plain residual w (nodes residual))
+  pub alike : (w : World) → IsTyped w script → (IsLeft (plain script w n) → ⊥) → Agree (plain script w n) (plain residual w (nodes residual))
   -- along every list of choices the source ends or wants a choice
   pub paths : (choices : List Bool) → EndsOrWants (open_run script choices n)
-  -- where the source leaves variables alone, the residual is their `var` statement
-  pub variables : (w : World) (calls : List Call) (heap : Heap) → plain script w n ≡ Ended calls Normal heap → AreVariables script heap → HasListing (snapshot heap) (listing heap) → written ≡ script_text (snapshot heap)
+  -- where a closed source leaves variables alone, the residual is their `var` statement
+  pub variables : IsClosed script → (w : World) (calls : List Call) (heap : Heap) → plain script w n ≡ Ended calls Normal heap → AreVariables script heap
+      → HasListing (snapshot heap) (listing heap) → written ≡ script_text (snapshot heap)
   -- where it leaves nothing, nothing is written
-  pub nothing : (w : World) (calls : List Call) (heap : Heap) → plain script w n ≡ Ended calls Normal heap → listing heap ≡ [] → written ≡ []
+  pub nothing : IsClosed script → (w : World) (calls : List Call) (heap : Heap) → plain script w n ≡ Ended calls Normal heap → listing heap ≡ [] → written ≡ []
 
 -- the source is a script whose run along these choices, all of which it takes, stops at a place, since it leaves the profile there
 abbrev pub IsStuck : ℕ → List ℕ → Place → Why → List Bool → Type 0
@@ -54,7 +53,7 @@ IsStuck n source at why choices = (s : Script) × (reads source 200 ≡ Ok s) ×
 
 -- the source is a script that ends within the budget
 abbrev pub IsFinished : ℕ → List ℕ → Type 0
-IsFinished n source = (s : Script) × (reads source 200 ≡ Ok s) × (open_run s [] n ≡ OpenEnded)
+IsFinished n source = (s : Script) × (reads source 200 ≡ Ok s) × EndsWithin s n
 
 -- the source isn't read, for a feature at a place
 abbrev pub IsUnsupported : List ℕ → Place → Feature → Type 0
@@ -66,8 +65,3 @@ IsReason n source (report.Unsupported at feature) = IsUnsupported source at feat
 IsReason n source (report.Stuck at why) = IsStuck n source at why []
 IsReason n source report.NoMemory = Unit {0}
 IsReason n source _ = ⊥
-
--- the report of a run that stopped
-abbrev pub IsReportOf : Stop → Report → Type 0
-IsReportOf (stop.Left d) r = r ≡ report.Stuck d.at d.why
-IsReportOf stop.NoMemory r = r ≡ report.NoMemory

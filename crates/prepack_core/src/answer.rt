@@ -1,7 +1,8 @@
 //! From the bytes of a source to the text of its residual.
 
 ghost use Rattle.std.specs.Prelude.{◌≤◌, length, IfOk, IfErr};
-ghost use Rattle.prepack_core.specs.Promises.{IsResidualOf, IsReason, IsReportOf};
+ghost use Rattle.prepack_core.specs.Evaluates.{IsReportOf};
+ghost use Rattle.prepack_core.specs.Promises.{IsResidualOf, IsReason};
 
 use crate::evaluate::{Stop, evaluate};
 use crate::report::Report;

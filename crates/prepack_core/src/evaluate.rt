@@ -84,7 +84,8 @@ fn combine(op: BinaryOp, a: i64, b: i64) -> Result<i64, Why>
 
 /// The sum or the difference of two operands, at the place of the expression (11.6).
 fn operation(op: BinaryOp, a: Value, b: Value, at: Place) -> Result<Value, Departure>
-    ensures { (heap : Heap) → spec.Comes (arithmetic at (spec.combined op) (primitive_of a) (primitive_of b)) heap 0 result }
+    ensures { (heap : Heap) → spec.Comes (arithmetic at (spec.combined op) (primitive_of a)
+        (primitive_of b)) heap 0 result }
 {
     let x = number_of(a, at)?;
     let y = number_of(b, at)?;
@@ -136,7 +137,8 @@ fn run_declarator(
 ) -> Result<(), Stop>
     requires simple { IsTrue (is_simple_declarator declarator.now) }
     requires bound { IsTrue (spec.are_bound variables.old (names_in_init declarator.now.init)) }
-    ensures runs { spec.RunsTo (declarator_rule declarator.now.name declarator.now.init) variables.old (count.in_maybe declarator.now.init) result variables.new }
+    ensures runs { spec.RunsTo (declarator_rule declarator.now.name declarator.now.init) variables.old
+        (count.in_maybe declarator.now.init) result variables.new }
     ensures bound { OnOk result (spec.KeepsBound variables.old variables.new) }
 {
     let Some(init) = &declarator.init else {
@@ -155,7 +157,8 @@ fn run_declarators(
 ) -> Result<(), Stop>
     requires simple { IsTrue (list_all is_simple_declarator declarators.now) }
     requires bound { IsTrue (spec.are_bound variables.old (spec.names_in_declarators declarators.now)) }
-    ensures runs { spec.RunsTo (declarators_rule declarators.now) variables.old (count.in_declarators declarators.now) result variables.new }
+    ensures runs { spec.RunsTo (declarators_rule declarators.now) variables.old
+        (count.in_declarators declarators.now) result variables.new }
     ensures bound { OnOk result (spec.KeepsBound variables.old variables.new) }
 {
     for declarator in declarators {
@@ -177,8 +180,10 @@ fn declarators_of(statement: &Stmt) -> &[Declarator]
 /// Runs a statement, which is a `var`.
 fn run_statement(alloc: Global, statement: &Stmt, variables: &mut Variables) -> Result<(), Stop>
     requires simple { IsTrue (is_simple_statement statement.now) }
-    requires bound { IsTrue (spec.are_bound variables.old (spec.names_in_declarators (declarators_in (out-StmtForm statement.now.form)))) }
-    ensures runs { spec.RunsTo (run_of_statement statement.now) variables.old (count.in_stmt statement.now) result variables.new }
+    requires bound { IsTrue (spec.are_bound variables.old
+        (spec.names_in_declarators (declarators_in (out-StmtForm statement.now.form)))) }
+    ensures runs { spec.RunsTo (run_of_statement statement.now) variables.old
+        (count.in_stmt statement.now) result variables.new }
     ensures bound { OnOk result (spec.KeepsBound variables.old variables.new) }
 {
     run_declarators(alloc, declarators_of(statement), variables)
@@ -191,7 +196,8 @@ fn declare_names(
     variables: &mut Variables,
 ) -> Result<(), NoMemory>
     requires { IsTrue (list_all is_simple_declarator declarators.now) }
-    ensures { OnOk result (variables.new ≡ spec.declared_after variables.old (flat_map (λ d. d.name ∷ []) declarators.now)) }
+    ensures { OnOk result (variables.new ≡ spec.declared_after variables.old
+        (flat_map (λ d. d.name ∷ []) declarators.now)) }
 {
     for declarator in declarators {
         variables.declare(alloc, &declarator.name)?;

@@ -2,7 +2,7 @@ ghost use Rattle.std.specs.Prelude.{◌≡◌, ◌≤◌, ◌↔◌, List, ℕ, 
 ghost use Rattle.std.specs.declared.option.Option.{Option};
 ghost use Rattle.std.specs.Option.{option_map};
 ghost use Rattle.js_value.specs.declared.primitive.Primitive.{Primitive};
-ghost use Rattle.prepack_core.specs.Hosts.{after_answers, Replies, lowered, CallHasCause, IsFirst};
+ghost use Rattle.prepack_core.specs.Hosts.{after_answers, Replies, numbers_after_call, CallHasCause, IsFirst};
 
 use js_value::{Kind, NoMemory, Primitive, Prims, Text};
 use std::alloc::Global;
@@ -33,7 +33,8 @@ pub trait Host: Drop {
     /// Puts an answer behind those that are left, or changes nothing.
     fn supply(&mut self, value: Primitive) -> Result<(), NoMemory>
         ensures ok { OnOk result (answers self.new ≡ after_answers (answers self.old) value) }
-        ensures err { OnErr result (answers self.new ≡ answers self.old) }
+        ensures err { OnErr result ((answers self.new ≡ answers self.old) ×
+            (host_faults self.new ≡ host_faults self.old)) }
         ensures failing { failing self.new ≡ failing self.old }
         ensures faults { host_faults self.old ≤ host_faults self.new };
 
@@ -43,7 +44,7 @@ pub trait Host: Drop {
         ensures cause { CallHasCause (host_faults self.old) (host_faults self.new) result }
         ensures faults { host_faults self.old ≤ host_faults self.new }
         ensures told { IfSome (failing self.old) (λ numbers. (result ≡ Reply.Failed) ↔ Contains numbers 1) }
-        ensures failing { failing self.new ≡ option_map lowered (failing self.old) };
+        ensures failing { failing self.new ≡ option_map numbers_after_call (failing self.old) };
 }
 
 /// A queue of answers, at first empty. It tells its answers, and that no call of it fails.
@@ -92,7 +93,7 @@ impl Host for ListHost {
         ensures cause { CallHasCause 0 0 result }
         ensures faults { 0 ≤ 0 }
         ensures told { (result ≡ Reply.Failed) ↔ Contains {X = ℕ} [] 1 }
-        ensures failing { Some [] ≡ option_map lowered (Some []) }
+        ensures failing { Some [] ≡ option_map numbers_after_call (Some []) }
         ensures first { IsFirst self.old result }
     {
         match self.queue.pop_front() {

@@ -124,7 +124,8 @@ fn why_name(why: Why) -> &'static [u8]
 
 /// Writes two pieces, the second only where the first was taken, and says whether both were.
 fn write_both<K: Sink>(sink: &mut K, first: &[u8], second: &[u8]) -> bool
-    ensures appended { IsAppended (K.held sink.old) (K.held sink.new) (K.faults sink.old) (K.faults sink.new) (first.now ++ second.now) }
+    ensures appended { IsAppended (K.held sink.old) (K.held sink.new) (K.faults sink.old)
+        (K.faults sink.new) (first.now ++ second.now) }
     ensures whole { OnTrue result (K.held sink.new ≡ after_held (K.held sink.old) (first.now ++ second.now)) }
     ensures cause { OnFalse result (Rose (K.faults sink.old) (K.faults sink.new)) }
 {
@@ -136,7 +137,8 @@ fn write_both<K: Sink>(sink: &mut K, first: &[u8], second: &[u8]) -> bool
 
 /// Writes a place behind `front`, and says whether both were taken.
 fn write_place<K: Sink>(sink: &mut K, front: &[u8], at: Place) -> bool
-    ensures appended { IsAppended (K.held sink.old) (K.held sink.new) (K.faults sink.old) (K.faults sink.new) (front.now ++ decimal at.0) }
+    ensures appended { IsAppended (K.held sink.old) (K.held sink.new) (K.faults sink.old)
+        (K.faults sink.new) (front.now ++ decimal at.0) }
     ensures whole { OnTrue result (K.held sink.new ≡ after_held (K.held sink.old) (front.now ++ decimal at.0)) }
     ensures cause { OnFalse result (Rose (K.faults sink.old) (K.faults sink.new)) }
 {
@@ -153,7 +155,8 @@ fn tell_place<K: Sink>(
     name: &[u8],
     end: &[u8],
 )
-    ensures { IsAppended (K.held sink.old) (K.held sink.new) (K.faults sink.old) (K.faults sink.new) (spec.place_line front.now at middle.now name.now end.now) }
+    ensures { IsAppended (K.held sink.old) (K.held sink.new) (K.faults sink.old) (K.faults sink.new)
+        (spec.place_line front.now at middle.now name.now end.now) }
 {
     if !write_place(sink, front, at) {
         return;
@@ -166,7 +169,8 @@ fn tell_place<K: Sink>(
 
 /// Writes the line of a report, as far as the sink takes it. It takes no memory.
 pub fn tell<K: Sink>(sink: &mut K, report: &Report)
-    ensures { IsAppended (K.held sink.old) (K.held sink.new) (K.faults sink.old) (K.faults sink.new) (spec.line_of report.now) }
+    ensures { IsAppended (K.held sink.old) (K.held sink.new) (K.faults sink.old) (K.faults sink.new)
+        (spec.line_of report.now) }
 {
     match report {
         Report::Usage => {

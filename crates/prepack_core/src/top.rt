@@ -1,11 +1,11 @@
 ghost use Rattle.std.specs.Prelude.{◌≡◌, ◌≢◌, ◌↔◌, ◌⊎◌, ◌+◌, ◌<◌, ◌≤◌, [], None, IsTrue, IsSome, IfOk, IfErr, map, length, string_bytes};
 ghost use Rattle.prepack_core.specs.Io.{Rose, before_left, IsEmptied};
 ghost use Rattle.prepack_core.specs.Words.{command};
-ghost use Rattle.prepack_core.specs.Promises.{IsResidualOf, IsFinished, IsStuck, IsUnsupported};
+ghost use Rattle.prepack_core.specs.Promises.{IsResidualOf, IsUnsupported};
 ghost use Rattle.js_value.specs.declared.place.Place.{Place};
 ghost use Rattle.js_value.specs.declared.why.Why.{Why};
 ghost use Rattle.js_tree.specs.declared.refusal.Feature.{Feature};
-ghost use Rattle.prepack_core.specs.Top.{given, budget, reads_whole, writes, HasReason, IsRefusal, IsRead, IsDelivered, IsTold, Expects};
+ghost use Rattle.prepack_core.specs.Top.{bytes_given, IsTextOf, IsAnswered, IsStopped, reads_whole, writes, HasReason, IsRefusal, IsRead, IsDelivered, IsTold, Expects};
 
 use crate::answer::answer;
 use crate::{
@@ -16,10 +16,13 @@ use std::alloc::Global;
 /// Reads a source, and answers it with the text of its residual.
 fn eval<S: Source>(alloc: Global, steps: u64, source: &mut S) -> Result<Vec<u8>, Report>
     requires { 1000000 ≤ steps }
-    ensures ok { IfOk result (λ text. IsRead (S.left source.old) (S.left source.new) (λ bytes. IsResidualOf steps bytes text.items)) }
-    ensures err { IfErr result (HasReason steps (S.left source.old) (S.left source.new) (S.faults source.old) (S.faults source.new)) }
-    ensures front { S.left source.old ≡ before_left (given (S.left source.old) (S.left source.new)) (S.left source.new) }
-    ensures most { length (given (S.left source.old) (S.left source.new)) ≤ 1048577 }
+    ensures ok { IfOk result (λ text. IsRead (S.left source.old) (S.left source.new)
+        (λ bytes. IsResidualOf steps bytes text.items)) }
+    ensures err { IfErr result (HasReason steps (S.left source.old) (S.left source.new)
+        (S.faults source.old) (S.faults source.new)) }
+    ensures front { S.left source.old ≡ before_left
+        (bytes_given (S.left source.old) (S.left source.new)) (S.left source.new) }
+    ensures most { length (bytes_given (S.left source.old) (S.left source.new)) ≤ 1048577 }
     ensures turns { S.turns source.new ≤ S.turns source.old + 1048577 }
 {
     match fetch(alloc, source) {
@@ -32,10 +35,14 @@ fn eval<S: Source>(alloc: Global, steps: u64, source: &mut S) -> Result<Vec<u8>,
 
 /// Reads the words, and does what they ask for.
 fn run_words<S: Source>(alloc: Global, words: &[String], source: &mut S) -> Result<Vec<u8>, Report>
-    ensures ok { IfOk result (λ text. IsRead (S.left source.old) (S.left source.new) (λ bytes. IsResidualOf (budget (map string_bytes words.now)) bytes text.items) × (command (map string_bytes words.now) ≢ None)) }
-    ensures err { IfErr result (IsRefusal (command (map string_bytes words.now)) (S.left source.old) (S.left source.new) (S.faults source.old) (S.faults source.new)) }
-    ensures front { S.left source.old ≡ before_left (given (S.left source.old) (S.left source.new)) (S.left source.new) }
-    ensures most { length (given (S.left source.old) (S.left source.new)) ≤ 1048577 }
+    ensures ok { IfOk result (λ text. IsRead (S.left source.old) (S.left source.new)
+        (λ bytes. IsTextOf (command (map string_bytes words.now)) bytes text.items)) }
+    ensures asked { IfOk result (λ _. command (map string_bytes words.now) ≢ None) }
+    ensures err { IfErr result (IsRefusal (command (map string_bytes words.now)) (S.left source.old)
+        (S.left source.new) (S.faults source.old) (S.faults source.new)) }
+    ensures front { S.left source.old ≡ before_left
+        (bytes_given (S.left source.old) (S.left source.new)) (S.left source.new) }
+    ensures most { length (bytes_given (S.left source.old) (S.left source.new)) ≤ 1048577 }
     ensures turns { S.turns source.new ≤ S.turns source.old + 1048577 }
     ensures unread { command (map string_bytes words.now) ≡ None → source.new ≡ source.old }
 {
@@ -47,7 +54,7 @@ fn run_words<S: Source>(alloc: Global, words: &[String], source: &mut S) -> Resu
 
 /// Does all that the program does: reads a source, and writes its residual to `out`. Where it doesn't, one line on `diag` says
 /// why; a fault of `diag` changes no status. All output stands before the first byte is written. The host is dropped before
-/// the return. Want of memory may take the place of any answer but `Usage`.
+/// the return. Want of memory may take the place of any other answer before the first byte is written, but never of `Usage`.
 pub fn prepack<S: Source, T: Sink, D: Sink>(
     alloc: Global,
     words: &[String],
@@ -62,29 +69,42 @@ pub fn prepack<S: Source, T: Sink, D: Sink>(
 
     // What is read is a front of what was left, at most one byte past the limit, and the whole of it where the status says
     // something of the text.
-    ensures front { S.left source.old ≡ before_left (given (S.left source.old) (S.left source.new)) (S.left source.new) }
-    ensures most { length (given (S.left source.old) (S.left source.new)) ≤ 1048577 }
+    ensures front { S.left source.old ≡ before_left
+        (bytes_given (S.left source.old) (S.left source.new)) (S.left source.new) }
+    ensures most { length (bytes_given (S.left source.old) (S.left source.new)) ≤ 1048577 }
     ensures turns { S.turns source.new ≤ S.turns source.old + 1048577 }
     ensures whole { IsTrue (reads_whole result) → IsEmptied (S.left source.new) }
 
     // A source is too large exactly by its bytes, and faults come from the objects that were handed in.
-    ensures too_large { result ≡ Status.TooLarge → IsSome (S.left source.old) → length (given (S.left source.old) (S.left source.new)) ≡ 1048577 }
-    ensures too_large_only { 1048576 < length (given (S.left source.old) (S.left source.new)) → (result ≡ Status.TooLarge) ⊎ (result ≡ Status.NoMemory) }
+    ensures too_large { result ≡ Status.TooLarge → IsSome (S.left source.old) →
+        length (bytes_given (S.left source.old) (S.left source.new)) ≡ 1048577 }
+    ensures too_large_only { 1048576 < length (bytes_given (S.left source.old) (S.left source.new)) →
+        (result ≡ Status.TooLarge) ⊎ (result ≡ Status.NoMemory) }
     ensures read_fault { result ≡ Status.ReadFault → Rose (S.faults source.old) (S.faults source.new) }
     ensures write_fault { result ≡ Status.WriteFault → Rose (T.faults out.old) (T.faults out.new) }
 
     // What goes to `out` is a whole residual of the source, a front of one where a write failed, or nothing.
-    ensures delivered { IsDelivered (budget (map string_bytes words.now)) (S.left source.old) (S.left source.new) result (T.held out.old) (T.held out.new) }
+    ensures delivered { IsDelivered (command (map string_bytes words.now)) (S.left source.old)
+        (S.left source.new) result (T.held out.old) (T.held out.new) }
     ensures unwritten { IsTrue (writes result) ⊎ (out.new ≡ out.old) }
 
     // What goes to `diag` is the line of the status, with why it comes.
-    ensures told { IsTold (budget (map string_bytes words.now)) (S.left source.old) (S.left source.new) (S.faults source.old) (S.faults source.new) result (D.held diag.old) (D.held diag.new) (D.faults diag.old) (D.faults diag.new) }
+    ensures told { IsTold (command (map string_bytes words.now)) (S.left source.old) (S.left source.new)
+        (S.faults source.old) (S.faults source.new) result (D.held diag.old) (D.held diag.new)
+        (D.faults diag.old) (D.faults diag.new) }
     ensures quiet { result ≡ Status.Done → diag.new ≡ diag.old }
 
     // Each answer comes where it is due, unless there was no memory.
-    ensures complete { command (map string_bytes words.now) ≢ None → (Rose (T.faults out.old) (T.faults out.new) → ⊥) → Expects (IsFinished (budget (map string_bytes words.now))) Status.Done (S.left source.old) (S.faults source.old) (S.faults source.new) result }
-    ensures stuck { (at : Place) (why : Why) → command (map string_bytes words.now) ≢ None → Expects (λ bytes. IsStuck (budget (map string_bytes words.now)) bytes at why []) Status.Stuck (S.left source.old) (S.faults source.old) (S.faults source.new) result }
-    ensures unsupported { (at : Place) (feature : Feature) → command (map string_bytes words.now) ≢ None → Expects (λ bytes. IsUnsupported bytes at feature) Status.Unsupported (S.left source.old) (S.faults source.old) (S.faults source.new) result }
+    ensures complete { (Rose (T.faults out.old) (T.faults out.new) → ⊥) →
+        Expects (IsAnswered (command (map string_bytes words.now))) Status.Done (S.left source.old)
+        (S.faults source.old) (S.faults source.new) result }
+    ensures stuck { (at : Place) (why : Why) → Expects
+        (IsStopped (command (map string_bytes words.now)) at why) Status.Stuck (S.left source.old)
+        (S.faults source.old) (S.faults source.new) result }
+    ensures unsupported { (at : Place) (feature : Feature) →
+        command (map string_bytes words.now) ≢ None →
+        Expects (λ bytes. IsUnsupported bytes at feature) Status.Unsupported (S.left source.old)
+        (S.faults source.old) (S.faults source.new) result }
 {
     drop(host);
     match run_words(alloc, words, source) {

@@ -148,10 +148,10 @@ tokens_count at left [] = omega arith
 tokens_count at (suc left) (c ∷ text) = if_weaker (λ ts. length ts ≤ length text) _ (tokens_from (at + 1) left text) (tokens_count (at + 1) left text) (λ ts h. omega arith)
 tokens_count at zero (c ∷ text) = cut_counts (cut at (c ∷ text)) (λ left. tokens_from (at + 1) left text) (length text) (λ left. tokens_count (at + 1) left text)
 
-pub few_nodes : (text : List ℕ) (s : Script) → simple_script text ≡ Some s → 63 * nodes s ≤ 60 * length text
+pub few_nodes : (text : List ℕ) (s : Script) → simple_script text ≡ Some s → 21 * nodes s ≤ 20 * length text
 unfolding tokens
 few_nodes text s e =
-    of_some (λ r. 63 * nodes r ≤ 60 * length text) (simple_script text) s e
+    of_some (λ r. 21 * nodes r ≤ 20 * length text) (simple_script text) s e
     (if_bound (λ ts. length ts ≤ length text) _ (tokens text) _ (tokens_count 0 0 text) (λ ts h.
     if_bound (λ ss. 63 * in_stmts ss ≤ 60 * length ts) _ (body ts) _ (body_counts ts) (λ ss g.
     if_chosen _ (reads_declared ss) (Some (script_of ss)) None (λ _. omega arith) (λ _. tt))))

@@ -25,7 +25,8 @@ fn declarators_of(s: &Stmt) -> &[Declarator]
 
 /// The names that the statements declare.
 fn declared<'a>(alloc: Global, statements: &'a [Stmt]) -> Result<Names<'a>, NoMemory>
-    ensures { IfOk result (λ names. (q : List ℕ) → known.has names q ≡ spec.is_among (spec.declared_names statements.now) q) }
+    ensures { IfOk result (λ names. (q : List ℕ) →
+        known.has names q ≡ spec.is_among (spec.declared_names statements.now) q) }
 {
     let mut names = HashSet::new(alloc);
     for s in statements {

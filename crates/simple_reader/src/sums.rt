@@ -45,7 +45,8 @@ fn negative<'a>(
     at: Place,
     tokens: &'a [SimpleToken],
 ) -> Result<TermAndRest<'a>, NoMemory>
-    ensures { IfOk result (λ found. option_map (λ t. (t.0, t.1.now)) found ≡ spec.term (token.Minus at ∷ tokens.now)) }
+    ensures { IfOk result (λ found. option_map (λ t. (t.0, t.1.now)) found ≡ spec.term
+        (token.Minus at ∷ tokens.now)) }
 {
     match tokens.split_first() {
         Some((SimpleToken::Number(next, n), rest)) => {
