@@ -26,6 +26,6 @@ pub fn snapshot_law()
     ensures same_text { (vs : List (List ℕ × Primitive)) → IsTrue (is_readable vs) →
         script_text (placed vs) ≡ script_text (snapshot vs) }
     ensures rebuilds { (vs : List (List ℕ × Primitive)) (w : World) → IsTrue (is_readable vs) →
-        IsDistinct bytes_eq (keys_of vs) → plain (placed vs) w (nodes (placed vs)) ≡ Ended [] Normal
-        vs }
+        IsDistinct bytes_eq (keys_of vs) →
+        plain (placed vs) w (nodes (placed vs)) ≡ Ended [] Normal vs }
 {}
