@@ -1,6 +1,8 @@
 //! The trees of scripts, how reading refuses a text, and the definitions of the language's texts.
 #![tactic(auto)]
 
+ghost use Rattle.js_tree.specs.EarlyCases.{EarlyCases};
+
 mod count;
 mod expression;
 mod refusal;
@@ -19,3 +21,9 @@ pub use statement::{
 pub use token::{
     InputElement, KEYWORDS, Keyword, PUNCTUATORS, Punctuator, Token, TokenForm, Tokens,
 };
+
+/// Cases of the early checks, worked out by hand.
+#[tactic(auto, using(crate::proofs::EarlyCases::early_cases))]
+pub fn early_check_cases()
+    ensures { EarlyCases }
+{}

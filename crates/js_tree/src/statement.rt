@@ -43,7 +43,8 @@ pub type Stmts = Seq<Stmt>;
 /// The clauses of a `switch`.
 pub type Cases = Seq<Case>;
 
-/// A statement with the place of its first token.
+/// A statement with the place of its first token. An expression statement has the place of its expression, so that
+/// parentheses before it aren't counted.
 #[cycle(statement)]
 #[derive(Debug, Drop)]
 pub struct Stmt {
@@ -98,7 +99,7 @@ pub enum StmtForm {
 }
 
 /// A function (13): its name where it has one, its parameters and its body. `directive` says that `"use strict"` is in
-/// its prologue.
+/// its prologue. Its place is that of the word `function`, or of the word `get` or `set` for an accessor (11.1.5).
 #[derive(Debug, Drop)]
 pub struct Func {
     pub at: Place,

@@ -1,0 +1,218 @@
+-- Tokens by what they are in a production (7.6, 7.7, 7.8).
+use Rattle.std.specs.Prelude.{ℕ, ◌-◌, ◌==◌, ◌&&◌, Bool, true, false, if◌then◌else◌, codes, List, Option, Some, None}
+use Rattle.std.specs.Str.{bytes_eq}
+use Rattle.std.specs.Fmt.{signed_decimal}
+use Rattle.js_value.specs.declared.primitive.Kind.{Kind}
+use Rattle.js_value.specs.declared.primitive.Kind.TheVariants as kind
+use Rattle.js_value.specs.declared.primitive.Primitive.TheVariants as primitive
+use Rattle.js_tree.specs.declared.expression.ExprForm.{ExprForm}
+use Rattle.js_tree.specs.declared.expression.ExprForm.TheVariants as e
+use Rattle.js_tree.specs.declared.refusal.Feature.{Feature}
+use Rattle.js_tree.specs.declared.refusal.Feature.TheVariants as feature
+use Rattle.js_tree.specs.declared.token.Keyword.{Keyword}
+use Rattle.js_tree.specs.declared.token.Keyword.TheVariants as word
+use Rattle.js_tree.specs.declared.token.Punctuator.TheVariants as mark
+use Rattle.js_tree.specs.declared.token.TokenForm.{TokenForm}
+use Rattle.js_tree.specs.declared.token.TokenForm.TheVariants as form
+use Rattle.js_tree.specs.declared.token.Token.{Token}
+
+-- ---- single tokens
+
+abbrev pub left_brace : TokenForm → Option (Unit {0})
+left_brace (form.Punctuator mark.LeftBrace) = Some tt
+left_brace _ = None
+
+abbrev pub right_brace : TokenForm → Option (Unit {0})
+right_brace (form.Punctuator mark.RightBrace) = Some tt
+right_brace _ = None
+
+abbrev pub left_parenthesis : TokenForm → Option (Unit {0})
+left_parenthesis (form.Punctuator mark.LeftParenthesis) = Some tt
+left_parenthesis _ = None
+
+abbrev pub right_parenthesis : TokenForm → Option (Unit {0})
+right_parenthesis (form.Punctuator mark.RightParenthesis) = Some tt
+right_parenthesis _ = None
+
+abbrev pub left_bracket : TokenForm → Option (Unit {0})
+left_bracket (form.Punctuator mark.LeftBracket) = Some tt
+left_bracket _ = None
+
+abbrev pub right_bracket : TokenForm → Option (Unit {0})
+right_bracket (form.Punctuator mark.RightBracket) = Some tt
+right_bracket _ = None
+
+abbrev pub dot : TokenForm → Option (Unit {0})
+dot (form.Punctuator mark.Dot) = Some tt
+dot _ = None
+
+abbrev pub semicolon : TokenForm → Option (Unit {0})
+semicolon (form.Punctuator mark.Semicolon) = Some tt
+semicolon _ = None
+
+abbrev pub comma : TokenForm → Option (Unit {0})
+comma (form.Punctuator mark.Comma) = Some tt
+comma _ = None
+
+abbrev pub question : TokenForm → Option (Unit {0})
+question (form.Punctuator mark.Question) = Some tt
+question _ = None
+
+abbrev pub colon : TokenForm → Option (Unit {0})
+colon (form.Punctuator mark.Colon) = Some tt
+colon _ = None
+
+abbrev pub equals : TokenForm → Option (Unit {0})
+equals (form.Punctuator mark.Assign) = Some tt
+equals _ = None
+
+abbrev pub case_word : TokenForm → Option (Unit {0})
+case_word (form.Reserved word.Case) = Some tt
+case_word _ = None
+
+abbrev pub catch_word : TokenForm → Option (Unit {0})
+catch_word (form.Reserved word.Catch) = Some tt
+catch_word _ = None
+
+abbrev pub default_word : TokenForm → Option (Unit {0})
+default_word (form.Reserved word.Default) = Some tt
+default_word _ = None
+
+abbrev pub else_word : TokenForm → Option (Unit {0})
+else_word (form.Reserved word.Else) = Some tt
+else_word _ = None
+
+abbrev pub finally_word : TokenForm → Option (Unit {0})
+finally_word (form.Reserved word.Finally) = Some tt
+finally_word _ = None
+
+abbrev pub function_word : TokenForm → Option (Unit {0})
+function_word (form.Reserved word.Function) = Some tt
+function_word _ = None
+
+abbrev pub in_word : TokenForm → Option (Unit {0})
+in_word (form.Reserved word.In) = Some tt
+in_word _ = None
+
+abbrev pub new_word : TokenForm → Option (Unit {0})
+new_word (form.Reserved word.New) = Some tt
+new_word _ = None
+
+abbrev pub var_word : TokenForm → Option (Unit {0})
+var_word (form.Reserved word.Var) = Some tt
+var_word _ = None
+
+abbrev pub while_word : TokenForm → Option (Unit {0})
+while_word (form.Reserved word.While) = Some tt
+while_word _ = None
+
+-- ---- names and literals
+
+-- 7.6
+abbrev pub identifier : TokenForm → Option (List ℕ)
+identifier (form.Name text) = Some text
+identifier _ = None
+
+abbrev pub string : TokenForm → Option (List ℕ)
+string (form.Str text) = Some text
+string _ = None
+
+abbrev pub spelled : Keyword → List ℕ
+spelled word.Break = codes "break"
+spelled word.Case = codes "case"
+spelled word.Catch = codes "catch"
+spelled word.Continue = codes "continue"
+spelled word.Debugger = codes "debugger"
+spelled word.Default = codes "default"
+spelled word.Delete = codes "delete"
+spelled word.Do = codes "do"
+spelled word.Else = codes "else"
+spelled word.Finally = codes "finally"
+spelled word.For = codes "for"
+spelled word.Function = codes "function"
+spelled word.If = codes "if"
+spelled word.In = codes "in"
+spelled word.InstanceOf = codes "instanceof"
+spelled word.New = codes "new"
+spelled word.Return = codes "return"
+spelled word.Switch = codes "switch"
+spelled word.This = codes "this"
+spelled word.Throw = codes "throw"
+spelled word.Try = codes "try"
+spelled word.TypeOf = codes "typeof"
+spelled word.Var = codes "var"
+spelled word.Void = codes "void"
+spelled word.While = codes "while"
+spelled word.With = codes "with"
+spelled word.Class = codes "class"
+spelled word.Const = codes "const"
+spelled word.Enum = codes "enum"
+spelled word.Export = codes "export"
+spelled word.Extends = codes "extends"
+spelled word.Import = codes "import"
+spelled word.Super = codes "super"
+spelled word.Null = codes "null"
+spelled word.True = codes "true"
+spelled word.False = codes "false"
+
+-- 7.6: a name or a reserved word
+abbrev pub identifier_name : TokenForm → Option (List ℕ)
+identifier_name (form.Name text) = Some text
+identifier_name (form.Reserved keyword) = Some (spelled keyword)
+identifier_name _ = None
+
+-- 11.1.5: an identifier name, a string or a number
+abbrev pub property_name : TokenForm → Option (List ℕ)
+property_name (form.Name text) = Some text
+property_name (form.Reserved keyword) = Some (spelled keyword)
+property_name (form.Str text) = Some text
+property_name (form.Number n) = Some (signed_decimal n)
+property_name _ = None
+
+-- 11.1: `this` and the literals of 7.8
+abbrev pub literal : TokenForm → Option ExprForm
+literal (form.Reserved word.This) = Some e.This
+literal (form.Reserved word.Null) = Some (e.Literal primitive.Null)
+literal (form.Reserved word.True) = Some (e.Literal (primitive.Boolean true))
+literal (form.Reserved word.False) = Some (e.Literal (primitive.Boolean false))
+literal (form.Number n) = Some (e.Literal (primitive.Number n))
+literal (form.Str text) = Some (e.Literal (primitive.Text text))
+literal _ = None
+
+-- names that aren't supported, except as property names
+abbrev pub barred : List ℕ → Option Feature
+barred name =
+    if bytes_eq name (codes "eval") then Some feature.Eval else (if bytes_eq name (codes "arguments") then Some feature.Arguments else None)
+
+-- the names of the two forms
+abbrev pub form_name : List ℕ → Option Feature
+form_name name =
+    if bytes_eq name (codes "__abstract") then Some feature.AbstractForm else (if bytes_eq name (codes "__residual") then Some feature.ResidualForm else None)
+
+abbrev pub get_word : List ℕ
+get_word = codes "get"
+
+abbrev pub set_word : List ℕ
+set_word = codes "set"
+
+-- `get` or `set` before a property name begins an accessor
+abbrev pub accessor_word : List ℕ → TokenForm → Option (Unit {0})
+accessor_word expected (form.Name text) = if bytes_eq text expected then Some tt else None
+accessor_word expected _ = None
+
+abbrev pub kind_of : List ℕ → Option Kind
+kind_of text =
+    if bytes_eq text (codes "number") then Some kind.Number
+    else (if bytes_eq text (codes "boolean") then Some kind.Boolean else (if bytes_eq text (codes "string") then Some kind.Text else None))
+
+abbrev pub kind_string : TokenForm → Option Kind
+kind_string (form.Str text) = kind_of text
+kind_string _ = None
+
+abbrev pub is_text : List ℕ → TokenForm → Bool
+is_text expected (form.Str text) = bytes_eq text expected
+is_text expected _ = false
+
+-- 14.1: the string `use strict`, written without escapes, so that it takes twelve bytes with its quotes
+abbrev pub is_use_strict : Token → Bool
+is_use_strict t = is_text (codes "use strict") t.form && t.end.0 - t.at.0 == 12

@@ -1,0 +1,295 @@
+-- Statements (12).
+use Rattle.std.specs.Prelude.{ℕ, ◌||◌, Bool, true, false, if◌then◌else◌, List, [], ◌∷◌, ◌++◌, Option, Some, None, Ok, is_some}
+use Rattle.js_value.specs.declared.place.Place.{Place}
+use Rattle.js_tree.specs.declared.expression.Expr.{Expr}
+use Rattle.js_tree.specs.declared.refusal.Feature.TheVariants as feature
+use Rattle.js_tree.specs.declared.statement.Case.{Case, roll-Case}
+use Rattle.js_tree.specs.declared.statement.Catch.{Catch, roll-Catch}
+use Rattle.js_tree.specs.declared.statement.Declarator.{Declarator}
+use Rattle.js_tree.specs.declared.statement.Finally.{Finally, roll-Finally}
+use Rattle.js_tree.specs.declared.statement.ForStart.{ForStart}
+use Rattle.js_tree.specs.declared.statement.ForStart.TheVariants as start
+use Rattle.js_tree.specs.declared.statement.ForTarget.{ForTarget}
+use Rattle.js_tree.specs.declared.statement.ForTarget.TheVariants as target
+use Rattle.js_tree.specs.declared.statement.Stmt.{Stmt}
+use Rattle.js_tree.specs.declared.statement.StmtForm.{StmtForm}
+use Rattle.js_tree.specs.declared.statement.StmtForm.TheVariants as s
+use Rattle.js_tree.specs.declared.token.Keyword.TheVariants as word
+use Rattle.js_tree.specs.declared.token.Punctuator.TheVariants as mark
+use Rattle.js_tree.specs.declared.token.TokenForm.{TokenForm}
+use Rattle.js_tree.specs.declared.token.TokenForm.TheVariants as form
+use Rattle.js_tree.specs.declared.token.Token.{Token}
+use Rattle.js_grammar.specs.Rest.{Reading, ◌>>=◌, ◌>>◌, give, here, look, sees, sees_second, next, expect, unexpected, unless, unsupported, on_later_line, repeat, part, finish_stmt}
+use Rattle.js_grammar.specs.Marks
+use Rattle.js_grammar.specs.Functions.{Grammar, declared_name, function_declaration}
+use Rattle.js_grammar.specs.Expressions.{assignment, if_target}
+use Rattle.js_grammar.specs.Primary.{expression, expression_by, group_behind}
+use Rattle.js_grammar.specs.Ends.{ends, continues_expression, continues_declared, continues_do, line_ends}
+use Rattle.js_grammar.specs.Declarators.{initialiser, declarators_behind}
+use Rattle.js_grammar.specs.Blocks.{statements, statements_behind_brace, braced}
+
+module _ (g : Grammar) where
+  -- ---- 12.1
+
+  abbrev pub block_behind : Place → Reading Stmt
+  block_behind at = do
+    body ← statements_behind_brace g
+    finish_stmt at (s.Block body)
+
+  -- ---- 12.2
+
+  abbrev pub last_has_init : List Declarator → Bool
+  last_has_init [] = false
+  last_has_init (d ∷ []) = is_some d.init
+  last_has_init (d ∷ more ∷ ds) = last_has_init (more ∷ ds)
+
+  abbrev pub continues_var : List Declarator → Option Token → TokenForm → Bool
+  continues_var ds last t = if last_has_init ds then continues_expression last t else continues_declared t
+
+  unfoldable pub var_behind : Place → Reading Stmt
+  var_behind at = do
+    name ← declared_name
+    first ← initialiser g true name
+    ds ← declarators_behind g true first.0
+    ends (continues_var ds)
+    finish_stmt at (s.Var ds)
+
+  -- ---- 12.4, and the labels of 12.12, which aren't supported
+
+  abbrev pub expression_statement : Reading Stmt
+  expression_statement = do
+    x ← expression_by g (assignment g true) true
+    ends continues_expression
+    finish_stmt x.at (s.Eval x)
+
+  abbrev pub label : {A : Type 0} → Place → List ℕ → Reading A
+  label at name = unless at (Marks.barred name) (unsupported at feature.Label)
+
+  abbrev pub label_or_expression : Place → Bool → Option (List ℕ) → Reading Stmt
+  label_or_expression at colon None = expression_statement
+  label_or_expression at colon (Some name) = if colon then label at name else expression_statement
+
+  unfoldable pub expression_here : Reading Stmt
+  expression_here = do
+    at ← here
+    colon ← sees_second Marks.colon
+    name ← look Marks.identifier
+    label_or_expression at colon name
+
+  -- ---- 12.5
+
+  -- an expression in parentheses
+  abbrev pub head : Reading Expr
+  head = expect Marks.left_parenthesis >> group_behind g
+
+  abbrev pub else_part : Reading (Option Stmt)
+  else_part = next Marks.else_word (λ _. do
+    x ← part g.statement
+    give (Some x)) (give None)
+
+  unfoldable pub if_behind : Place → Reading Stmt
+  if_behind at = do
+    test ← head
+    then_part ← part g.statement
+    other ← else_part
+    finish_stmt at (s.If test then_part other)
+
+  -- ---- 12.6
+
+  -- 12.6.1
+  unfoldable pub do_behind : Place → Reading Stmt
+  do_behind at = do
+    body ← part g.statement
+    expect Marks.while_word
+    test ← head
+    ends (λ last. continues_do)
+    finish_stmt at (s.DoWhile body test)
+
+  -- 12.6.2
+  unfoldable pub while_behind : Place → Reading Stmt
+  while_behind at = do
+    test ← head
+    body ← part g.statement
+    finish_stmt at (s.While test body)
+
+  abbrev pub expression_unless : {A : Type 0} → (TokenForm → Option A) → Reading (Option Expr)
+  expression_unless close = do
+    closed ← sees close
+    if closed then give None else (do
+      x ← expression g
+      give (Some x))
+
+  -- 12.6.3: the header of a `for`, behind its first part; its semicolons are never supplied
+  unfoldable pub for_parts : ForStart → Reading (Stmt → StmtForm)
+  for_parts from = do
+    expect Marks.semicolon
+    test ← expression_unless Marks.semicolon
+    expect Marks.semicolon
+    step ← expression_unless Marks.right_parenthesis
+    expect Marks.right_parenthesis
+    give (λ body. s.For from test step body)
+
+  -- 12.6.4
+  unfoldable pub for_in : ForTarget → Reading (Stmt → StmtForm)
+  for_in to = do
+    object ← expression g
+    expect Marks.right_parenthesis
+    give (λ body. s.ForIn to object body)
+
+  -- 12.6.3, 12.6.4: an initialiser before `in` isn't supported
+  unfoldable pub for_var : Reading (Stmt → StmtForm)
+  for_var = do
+    name ← declared_name
+    next Marks.in_word (λ _. for_in (target.Var name.at name.text)) (do
+      first ← initialiser g false name
+      next Marks.in_word (λ _. unsupported first.1 feature.ForInInitialiser) (do
+        ds ← declarators_behind g false first.0
+        for_parts (start.Var ds)))
+
+  unfoldable pub for_expression : Reading (Stmt → StmtForm)
+  for_expression = do
+    x ← expression_by g (g.assignment false) false
+    next Marks.in_word (λ _. if_target x (for_in (target.Expr x))) (for_parts (start.Expr x))
+
+  abbrev pub for_header : Reading (Stmt → StmtForm)
+  for_header = do
+    without ← sees Marks.semicolon
+    next Marks.var_word (λ _. for_var) (if without then for_parts start.Nothing else for_expression)
+
+  -- 12.6.3, 12.6.4
+  unfoldable pub for_behind : Place → Reading Stmt
+  for_behind at = do
+    expect Marks.left_parenthesis
+    whole ← part for_header
+    body ← part g.statement
+    finish_stmt at (whole body)
+
+  -- ---- 12.7, 12.8: a line end ends them, and a label isn't supported
+
+  abbrev pub jump_behind : StmtForm → Place → Reading Stmt
+  jump_behind jump at = do
+    ended ← line_ends
+    name_at ← here
+    if ended then finish_stmt at jump else next Marks.identifier (label name_at) (do
+      ends continues_expression
+      finish_stmt at jump)
+
+  -- ---- 12.9: a line end ends it
+
+  unfoldable pub return_behind : Place → Reading Stmt
+  return_behind at = do
+    ended ← line_ends
+    semicolon ← sees Marks.semicolon
+    brace ← sees Marks.right_brace
+    if ended then finish_stmt at (s.Return None) else (do
+      x ← if semicolon || brace then give None else (expression g >>= λ x. give (Some x))
+      ends continues_expression
+      finish_stmt at (s.Return x))
+
+  -- ---- 12.11: at most one clause is the default
+
+  abbrev pub ends_case : TokenForm → Bool
+  ends_case t = is_some (Marks.case_word t) || is_some (Marks.default_word t) || is_some (Marks.right_brace t)
+
+  abbrev pub starts_with_case_end : List Token → Bool
+  starts_with_case_end [] = false
+  starts_with_case_end (t ∷ ts) = ends_case t.form
+
+  abbrev pub case_behind : Option Expr → Reading Case
+  case_behind test = do
+    expect Marks.colon
+    body ← statements g (λ r. Ok (starts_with_case_end r.tokens, r))
+    give (roll-Case (record { test = test; body = body }))
+
+  abbrev pub tested_case : Reading Case
+  tested_case = do
+    test ← expression g
+    case_behind (Some test)
+
+  abbrev pub more_cases : (List Case × Bool → Reading (List Case)) → List Case × Bool → Reading (List Case)
+  more_cases again so_far =
+      next Marks.right_brace (λ _. give so_far.0) (
+      next Marks.case_word (λ _. do
+        c ← tested_case
+        again (so_far.0 ++ (c ∷ []), so_far.1)) (
+      if so_far.1 then unexpected else (do
+        expect Marks.default_word
+        c ← case_behind None
+        again (so_far.0 ++ (c ∷ []), true))))
+
+  unfoldable pub switch_behind : Place → Reading Stmt
+  switch_behind at = do
+    x ← head
+    expect Marks.left_brace
+    cases ← repeat more_cases ([], false)
+    finish_stmt at (s.Switch x cases)
+
+  -- ---- 12.13: no line end may follow the word
+
+  unfoldable pub throw_behind : Place → Reading Stmt
+  throw_behind at = do
+    later ← on_later_line
+    x ← if later then unexpected else expression g
+    ends continues_expression
+    finish_stmt at (s.Throw x)
+
+  -- ---- 12.14
+
+  abbrev pub catch_part : Reading (Option Catch)
+  catch_part = next Marks.catch_word (λ _. do
+    expect Marks.left_parenthesis
+    name ← part (do
+      name ← declared_name
+      expect Marks.right_parenthesis
+      give name)
+    body ← braced g
+    give (Some (roll-Catch (record { at = name.at; name = name.text; body = body })))) (give None)
+
+  abbrev pub finally_part : Reading (Option Finally)
+  finally_part = next Marks.finally_word (λ _. do
+    body ← braced g
+    give (Some (roll-Finally (record { body = body })))) (give None)
+
+  unfoldable pub try_behind : Place → Reading Stmt
+  try_behind at = do
+    body ← braced g
+    handler ← catch_part
+    final ← finally_part
+    if is_some handler || is_some final then finish_stmt at (s.Try body handler final) else unexpected
+
+  -- ---- 12
+
+  -- The statements that begin with a token of their own: among them the empty one (12.3). `with` (12.10) and `debugger` (12.15)
+  -- aren't supported.
+  abbrev pub by_first : Place → TokenForm → Option (Reading Stmt)
+  by_first at (form.Punctuator mark.LeftBrace) = Some (block_behind at)
+  by_first at (form.Punctuator mark.Semicolon) = Some (finish_stmt at s.Empty)
+  by_first at (form.Reserved word.Var) = Some (var_behind at)
+  by_first at (form.Reserved word.If) = Some (if_behind at)
+  by_first at (form.Reserved word.Do) = Some (do_behind at)
+  by_first at (form.Reserved word.While) = Some (while_behind at)
+  by_first at (form.Reserved word.For) = Some (for_behind at)
+  by_first at (form.Reserved word.Continue) = Some (jump_behind s.Continue at)
+  by_first at (form.Reserved word.Break) = Some (jump_behind s.Break at)
+  by_first at (form.Reserved word.Return) = Some (return_behind at)
+  by_first at (form.Reserved word.With) = Some (unsupported at feature.With)
+  by_first at (form.Reserved word.Switch) = Some (switch_behind at)
+  by_first at (form.Reserved word.Throw) = Some (throw_behind at)
+  by_first at (form.Reserved word.Try) = Some (try_behind at)
+  by_first at (form.Reserved word.Debugger) = Some (unsupported at feature.Debugger)
+  by_first at (form.Reserved word.Function) = Some (unsupported at feature.FunctionInBlock)
+  by_first at _ = None
+
+  unfoldable pub statement : Reading Stmt
+  statement = do
+    at ← here
+    next (by_first at) (λ read. read) expression_here
+
+  -- 14: a function declaration stands only here
+  unfoldable pub element : Reading Stmt
+  element = do
+    at ← here
+    declares ← sees Marks.function_word
+    if declares then (do
+      f ← function_declaration g at
+      finish_stmt at (s.FuncDecl f)) else statement
