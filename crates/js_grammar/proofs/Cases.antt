@@ -3,26 +3,38 @@ use Rattle.std.proofs.Common.{ℕ, List, ◌≡◌, refl, map, Ok}
 use Rattle.js_tree.specs.declared.expression.ExprForm.{out-ExprForm}
 use Rattle.js_tree.specs.Lexing.{reserved_word}
 use Rattle.js_grammar.specs.Rest.{next, repeat, part, numbered, finish, finish_stmt}
-use Rattle.js_grammar.specs.Functions.{declared_name, parameters, elements, function_body, function_behind, accessor, function_expression, function_declaration}
-use Rattle.js_grammar.specs.Primary.{abstract_behind, expression_by, residual_behind, array_behind, property, object_behind, group_behind, arguments_behind, new_behind, member, left_hand_side}
-use Rattle.js_grammar.specs.Expressions.{postfix, unary, multiplicative, additive, shift, relational, equality, bit_and, bit_xor, bit_or, logical_and, logical_or, conditional, assignment}
+use Rattle.js_grammar.specs.Functions.{declared_name, parameters, elements, function_body, function_behind, accessor, function_expression}
+use Rattle.js_grammar.specs.Functions.{function_declaration}
+use Rattle.js_grammar.specs.Primary.{abstract_behind, expression_by, residual_behind, array_behind, property, object_behind, group_behind}
+use Rattle.js_grammar.specs.Primary.{arguments_behind, new_behind, member, left_hand_side}
+use Rattle.js_grammar.specs.Expressions.{postfix, unary, multiplicative, additive, shift, relational, equality, bit_and, bit_xor, bit_or}
+use Rattle.js_grammar.specs.Expressions.{logical_and, logical_or, conditional, assignment}
 use Rattle.js_grammar.specs.Ends.{ends}
 use Rattle.js_grammar.specs.Declarators.{declarators_behind}
 use Rattle.js_grammar.specs.Blocks.{statements, statements_behind_brace}
-use Rattle.js_grammar.specs.Statements.{var_behind, expression_here, if_behind, do_behind, while_behind, for_parts, for_in, for_var, for_expression, for_behind, return_behind, switch_behind, throw_behind, try_behind, statement, element}
-use Rattle.js_grammar.specs.Reading.{read, productions, grammar, read_by}
+use Rattle.js_grammar.specs.Statements.{var_behind, expression_here, if_behind, do_behind, while_behind, for_parts, for_in, for_var}
+use Rattle.js_grammar.specs.Statements.{for_expression, for_behind, return_behind, switch_behind, throw_behind, try_behind, statement, element}
+use Rattle.js_grammar.specs.Reading.{productions, grammar, read_by}
 use Rattle.js_grammar.specs.Written.{tokens_of}
-use Rattle.js_grammar.specs.Answers.{Answer, fault, read_text, AreRead, AreReadPairs, AreAnswered, AreGrouped, AreOpen}
-use Rattle.js_grammar.specs.ExpressionCases.{ExpressionCases, loose_texts, bitwise_texts, arithmetic_texts, prefix_texts, member_texts, primary_texts, no_primary_texts, target_texts, targets_texts}
-use Rattle.js_grammar.specs.StatementCases.{StatementCases, statement_texts, misplaced_texts, function_in_block_texts, for_header_texts, barred_in_texts, ended_texts, unended_texts}
-use Rattle.js_grammar.specs.HeightCases.{HeightCases, height_texts}
-use Rattle.js_tree.specs.declared.statement.StmtForm.{out-StmtForm}
+use Rattle.js_grammar.specs.Answers.{Answer, read_text, AreRead, AreReadPairs, AreAnswered, AreGrouped, AreOpen}
+use Rattle.js_grammar.specs.ExpressionCases.{ExpressionCases, loose_texts, bitwise_texts, arithmetic_texts, prefix_texts, member_texts}
+use Rattle.js_grammar.specs.ExpressionCases.{primary_texts, no_primary_texts, target_texts, targets_texts}
+use Rattle.js_grammar.specs.StatementCases.{StatementCases, statement_texts, misplaced_texts, function_in_block_texts, for_header_texts}
+use Rattle.js_grammar.specs.StatementCases.{barred_in_texts, ended_texts, unended_texts}
 use Rattle.js_grammar.specs.TreeCases.{TreeCases, tree_texts}
-use Rattle.js_grammar.specs.RefusalCases.{RefusalCases, unsupported_texts, supported_texts, forms_texts, no_forms_texts, strict_texts, sloppy_texts, open_parts_texts}
+use Rattle.js_grammar.specs.RefusalCases.{RefusalCases, unsupported_texts, supported_texts, forms_texts, no_forms_texts, strict_texts}
+use Rattle.js_grammar.specs.RefusalCases.{sloppy_texts, open_parts_texts}
 
 -- each production is opened where this is
 unfoldable pub all_opened : ℕ → List ℕ → Answer
-unfolding read_text tokens_of reserved_word out-ExprForm denote.Hole.Carrier.out next repeat part numbered finish finish_stmt declared_name parameters elements function_body function_behind accessor function_expression function_declaration abstract_behind expression_by residual_behind array_behind property object_behind group_behind arguments_behind new_behind member left_hand_side postfix unary multiplicative additive shift relational equality bit_and bit_xor bit_or logical_and logical_or conditional assignment ends declarators_behind statements statements_behind_brace var_behind expression_here if_behind do_behind while_behind for_parts for_in for_var for_expression for_behind return_behind switch_behind throw_behind try_behind statement element productions grammar read_by
+unfolding read_text tokens_of reserved_word out-ExprForm denote.Hole.Carrier.out next repeat part numbered finish
+    finish_stmt declared_name parameters elements function_body function_behind accessor function_expression
+    function_declaration abstract_behind expression_by residual_behind array_behind property object_behind group_behind
+    arguments_behind new_behind member left_hand_side postfix unary multiplicative additive shift relational equality
+    bit_and bit_xor bit_or logical_and logical_or conditional assignment ends declarators_behind statements
+    statements_behind_brace var_behind expression_here if_behind do_behind while_behind for_parts for_in for_var
+    for_expression for_behind return_behind switch_behind throw_behind try_behind statement element productions grammar
+    read_by
 all_opened = read_text
 
 statement_cases : AreRead statement_texts
@@ -183,10 +195,3 @@ trees_read = refl
 
 pub tree_cases : TreeCases
 tree_cases = record { trees = trees_read }
-
-heights_read : map (λ row. fault (read (tokens_of row.0) row.1)) height_texts ≡ map (λ row. row.2) height_texts
-unfolding all_opened read out-StmtForm
-heights_read = refl
-
-pub height_cases : HeightCases
-height_cases = record { heights = heights_read }

@@ -1,2 +1,3 @@
 pub mod Cases
+pub mod HeightCases
 pub mod OperatorCases

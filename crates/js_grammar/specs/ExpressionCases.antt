@@ -58,12 +58,7 @@ arithmetic_texts =
 -- 11.3, 11.4: operators with one operand
 abbrev pub prefix_texts : List (List ℕ × List ℕ)
 prefix_texts =
-    (codes "a * ( - b )", codes "a *   - b  ")
-    ∷ (codes "( - a ) * b", codes "  - a   * b")
-    ∷ (codes "- ( - a )", codes "-   - a  ")
-    ∷ (codes "- ( a ++ )", codes "-   a ++  ")
-    ∷ (codes "! ( a . b )", codes "!   a . b  ")
-    ∷ (codes "typeof ( a ( b ) )", codes "typeof   a ( b )  ")
+    (codes "typeof ( a ( b ) )", codes "typeof   a ( b )  ")
     ∷ (codes "( typeof a ) + b", codes "  typeof a   + b")
     ∷ (codes "delete ( a . b )", codes "delete   a . b  ")
     ∷ (codes "void ( ~ a )", codes "void   ~ a  ")

@@ -24,7 +24,8 @@ use Rattle.js_grammar.specs.Primary.{left_hand_side}
 -- ---- targets: a name or a member (11.13.1, 11.3, 11.4.4, 12.6.4)
 
 abbrev pub is_target : Expr → Bool
-is_target x = elim (out-ExprForm x.form) [ ExprForm-F.Name text ↦ true | ExprForm-F.Member object key ↦ true | ExprForm-F.Index object key ↦ true | _ ↦ false ]
+is_target x = elim (out-ExprForm x.form)
+    [ ExprForm-F.Name text ↦ true | ExprForm-F.Member object key ↦ true | ExprForm-F.Index object key ↦ true | _ ↦ false ]
 
 abbrev pub if_target : {A : Type 0} → Expr → Reading A → Reading A
 if_target x read = if is_target x then read else refuse (Syntax x.at)

@@ -10,7 +10,8 @@ use Rattle.js_tree.specs.declared.statement.Func.{Func}
 use Rattle.js_tree.specs.declared.statement.Stmt.{Stmt}
 use Rattle.js_tree.specs.declared.token.Token.{Token}
 use Rattle.js_grammar.specs.Rest.{Reading, ◌>>=◌, ◌>>◌, give, here, sees, next, expect, unless, unsupported, repeat, part, numbered}
-use Rattle.js_grammar.specs.Marks.{left_brace, right_brace, left_parenthesis, right_parenthesis, comma, semicolon, identifier, string, barred, form_name, function_word, is_use_strict}
+use Rattle.js_grammar.specs.Marks.{left_brace, right_brace, left_parenthesis, right_parenthesis, comma, semicolon, identifier, string, barred}
+use Rattle.js_grammar.specs.Marks.{form_name, function_word, is_use_strict}
 
 -- The productions that others refer to before they are defined. Each is used behind a token of the production that refers to it.
 pub record Grammar : Type 0 where

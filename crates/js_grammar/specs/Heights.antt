@@ -99,9 +99,12 @@ body_of functions f = elim (slice_get functions f.0) [ None ↦ [] | Some g ↦ 
 abbrev mutual
   pub is_within : List Func → ℕ → Expr → Bool
   is_within functions zero x = false
-  is_within functions (suc n) x = parts_fit (is_within functions n) (λ f. list_all (is_stmt_within functions n) (body_of functions f)) (out-ExprForm x.form)
+  is_within functions (suc n) x =
+      parts_fit (is_within functions n) (λ f. list_all (is_stmt_within functions n) (body_of functions f))
+      (out-ExprForm x.form)
 
   pub is_stmt_within : List Func → ℕ → Stmt → Bool
   is_stmt_within functions zero t = false
   is_stmt_within functions (suc n) t =
-      stmt_parts_fit (is_within functions n) (is_stmt_within functions n) (λ f. list_all (is_stmt_within functions n) (body_of functions f)) (out-StmtForm t.form)
+      stmt_parts_fit (is_within functions n) (is_stmt_within functions n)
+      (λ f. list_all (is_stmt_within functions n) (body_of functions f)) (out-StmtForm t.form)

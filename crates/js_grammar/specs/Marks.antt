@@ -1,5 +1,7 @@
 -- Tokens by what they are in a production (7.6, 7.7, 7.8).
-use Rattle.std.specs.Prelude.{ℕ, ◌-◌, ◌==◌, ◌&&◌, Bool, true, false, if◌then◌else◌, codes, List, Option, Some, None}
+use Rattle.std.specs.Prelude.{ℕ, ◌-◌, ◌==◌, ◌&&◌, Bool, true, false, if◌then◌else◌, codes, List, [], Option, Some, None}
+use Rattle.std.specs.List.{find}
+use Rattle.std.specs.Option.{option_map_or}
 use Rattle.std.specs.Str.{bytes_eq}
 use Rattle.std.specs.Fmt.{signed_decimal}
 use Rattle.js_value.specs.declared.primitive.Kind.{Kind}
@@ -11,7 +13,9 @@ use Rattle.js_tree.specs.declared.refusal.Feature.{Feature}
 use Rattle.js_tree.specs.declared.refusal.Feature.TheVariants as feature
 use Rattle.js_tree.specs.declared.token.Keyword.{Keyword}
 use Rattle.js_tree.specs.declared.token.Keyword.TheVariants as word
+use Rattle.js_tree.specs.contracts.token.KeywordPartialEq.TheImpl.{ghosts}
 use Rattle.js_tree.specs.declared.token.Punctuator.TheVariants as mark
+use Rattle.js_tree.specs.declared.token.TheConstants.{KEYWORDS}
 use Rattle.js_tree.specs.declared.token.TokenForm.{TokenForm}
 use Rattle.js_tree.specs.declared.token.TokenForm.TheVariants as form
 use Rattle.js_tree.specs.declared.token.Token.{Token}
@@ -117,43 +121,13 @@ abbrev pub string : TokenForm → Option (List ℕ)
 string (form.Str text) = Some text
 string _ = None
 
+-- `==` of reserved words
+abbrev pub same_word : Keyword → Keyword → Bool
+same_word = ghosts.eq
+
+-- 7.6.1: a reserved word is spelled as in the table
 abbrev pub spelled : Keyword → List ℕ
-spelled word.Break = codes "break"
-spelled word.Case = codes "case"
-spelled word.Catch = codes "catch"
-spelled word.Continue = codes "continue"
-spelled word.Debugger = codes "debugger"
-spelled word.Default = codes "default"
-spelled word.Delete = codes "delete"
-spelled word.Do = codes "do"
-spelled word.Else = codes "else"
-spelled word.Finally = codes "finally"
-spelled word.For = codes "for"
-spelled word.Function = codes "function"
-spelled word.If = codes "if"
-spelled word.In = codes "in"
-spelled word.InstanceOf = codes "instanceof"
-spelled word.New = codes "new"
-spelled word.Return = codes "return"
-spelled word.Switch = codes "switch"
-spelled word.This = codes "this"
-spelled word.Throw = codes "throw"
-spelled word.Try = codes "try"
-spelled word.TypeOf = codes "typeof"
-spelled word.Var = codes "var"
-spelled word.Void = codes "void"
-spelled word.While = codes "while"
-spelled word.With = codes "with"
-spelled word.Class = codes "class"
-spelled word.Const = codes "const"
-spelled word.Enum = codes "enum"
-spelled word.Export = codes "export"
-spelled word.Extends = codes "extends"
-spelled word.Import = codes "import"
-spelled word.Super = codes "super"
-spelled word.Null = codes "null"
-spelled word.True = codes "true"
-spelled word.False = codes "false"
+spelled keyword = option_map_or (λ row. row.0.now) (find (λ row. same_word keyword row.1) KEYWORDS) []
 
 -- 7.6: a name or a reserved word
 abbrev pub identifier_name : TokenForm → Option (List ℕ)
@@ -182,12 +156,14 @@ literal _ = None
 -- names that aren't supported, except as property names
 abbrev pub barred : List ℕ → Option Feature
 barred name =
-    if bytes_eq name (codes "eval") then Some feature.Eval else (if bytes_eq name (codes "arguments") then Some feature.Arguments else None)
+    if bytes_eq name (codes "eval") then Some feature.Eval
+    else (if bytes_eq name (codes "arguments") then Some feature.Arguments else None)
 
 -- the names of the two forms
 abbrev pub form_name : List ℕ → Option Feature
 form_name name =
-    if bytes_eq name (codes "__abstract") then Some feature.AbstractForm else (if bytes_eq name (codes "__residual") then Some feature.ResidualForm else None)
+    if bytes_eq name (codes "__abstract") then Some feature.AbstractForm
+    else (if bytes_eq name (codes "__residual") then Some feature.ResidualForm else None)
 
 abbrev pub get_word : List ℕ
 get_word = codes "get"

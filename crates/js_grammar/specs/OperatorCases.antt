@@ -102,10 +102,19 @@ abbrev pub postfix_steps : List (List ℕ × StepOp)
 postfix_steps = (codes "++", step.PostUp) ∷ (codes "--", step.PostDown) ∷ []
 
 pub record OperatorCases : Type 0 where
-  pub binary_tokens : map (λ row. read_text 50 (between row.0)) binary_operators ≡ map (λ row. Ok (alone (e.Binary row.1 (name 0 (codes "a")) (right row.0)))) binary_operators
-  pub logical_tokens : map (λ row. read_text 50 (between row.0)) logical_operators ≡ map (λ row. Ok (alone (e.Logic row.1 (name 0 (codes "a")) (right row.0)))) logical_operators
+  pub binary_tokens :
+      map (λ row. read_text 50 (between row.0)) binary_operators
+      ≡ map (λ row. Ok (alone (e.Binary row.1 (name 0 (codes "a")) (right row.0)))) binary_operators
+  pub logical_tokens :
+      map (λ row. read_text 50 (between row.0)) logical_operators
+      ≡ map (λ row. Ok (alone (e.Logic row.1 (name 0 (codes "a")) (right row.0)))) logical_operators
   pub assignment_tokens :
-      map (λ row. read_text 50 (between row.0)) assignment_operators ≡ map (λ row. Ok (alone (e.Assign (name 0 (codes "a")) row.1 (right row.0)))) assignment_operators
-  pub unary_tokens : map (λ row. read_text 50 (before row.0)) unary_operators ≡ map (λ row. Ok (alone (e.Unary row.1 (operand row.0)))) unary_operators
+      map (λ row. read_text 50 (between row.0)) assignment_operators
+      ≡ map (λ row. Ok (alone (e.Assign (name 0 (codes "a")) row.1 (right row.0)))) assignment_operators
+  pub unary_tokens :
+      map (λ row. read_text 50 (before row.0)) unary_operators
+      ≡ map (λ row. Ok (alone (e.Unary row.1 (operand row.0)))) unary_operators
   pub prefix_tokens : map (λ row. read_text 50 (before row.0)) prefix_steps ≡ map (λ row. Ok (alone (e.Step row.1 (operand row.0)))) prefix_steps
-  pub postfix_tokens : map (λ row. read_text 50 (codes "a " ++ row.0)) postfix_steps ≡ map (λ row. Ok (alone (e.Step row.1 (name 0 (codes "a"))))) postfix_steps
+  pub postfix_tokens :
+      map (λ row. read_text 50 (codes "a " ++ row.0)) postfix_steps
+      ≡ map (λ row. Ok (alone (e.Step row.1 (name 0 (codes "a"))))) postfix_steps

@@ -8,7 +8,8 @@ use Rattle.js_tree.specs.declared.expression.Field.TheVariants as field
 use Rattle.js_tree.specs.declared.refusal.Feature.{Feature}
 use Rattle.js_tree.specs.declared.refusal.Feature.TheVariants as feature
 use Rattle.js_tree.specs.declared.token.TokenForm.{TokenForm}
-use Rattle.js_grammar.specs.Rest.{Reading, ◌>>=◌, ◌>>◌, give, here, at_end, sees, sees_second, next, expect, unexpected, unless, unsupported, repeat, part, finish}
+use Rattle.js_grammar.specs.Rest.{Reading, ◌>>=◌, ◌>>◌, give, here, at_end, sees, sees_second, next, expect, unexpected, unless, unsupported}
+use Rattle.js_grammar.specs.Rest.{repeat, part, finish}
 use Rattle.js_grammar.specs.Marks
 use Rattle.js_grammar.specs.Functions.{Grammar, function_expression, accessor, no_parameter, one_parameter}
 use Rattle.js_grammar.specs.Operators

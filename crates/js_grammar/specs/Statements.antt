@@ -19,7 +19,8 @@ use Rattle.js_tree.specs.declared.token.Punctuator.TheVariants as mark
 use Rattle.js_tree.specs.declared.token.TokenForm.{TokenForm}
 use Rattle.js_tree.specs.declared.token.TokenForm.TheVariants as form
 use Rattle.js_tree.specs.declared.token.Token.{Token}
-use Rattle.js_grammar.specs.Rest.{Reading, ◌>>=◌, ◌>>◌, give, here, look, sees, sees_second, next, expect, unexpected, unless, unsupported, on_later_line, repeat, part, finish_stmt}
+use Rattle.js_grammar.specs.Rest.{Reading, ◌>>=◌, ◌>>◌, give, here, look, sees, sees_second, next, expect, unexpected, unless, unsupported}
+use Rattle.js_grammar.specs.Rest.{on_later_line, repeat, part, finish_stmt}
 use Rattle.js_grammar.specs.Marks
 use Rattle.js_grammar.specs.Functions.{Grammar, declared_name, function_declaration}
 use Rattle.js_grammar.specs.Expressions.{assignment, if_target}

@@ -17,22 +17,76 @@ use Rattle.js_tree.specs.Trees.{expr, name, stmt, no, declared, func, declarator
 abbrev pub tree_texts : List (List ℕ × Script)
 tree_texts =
     -- `else` belongs to the nearest `if`
-    (codes "if ( a ) if ( b ) c ; else d ;", one (stmt 0 (s.If (name 5 (codes "a")) (stmt 9 (s.If (name 14 (codes "b")) (stmt 18 (s.Eval (name 18 (codes "c")))) (Some (stmt 27 (s.Eval (name 27 (codes "d"))))))) None)))
+    (
+      codes "if ( a ) if ( b ) c ; else d ;",
+      one (stmt 0 (s.If (name 5 (codes "a"))
+          (stmt 9 (s.If (name 14 (codes "b")) (stmt 18 (s.Eval (name 18 (codes "c")))) (Some (stmt 27 (s.Eval (name 27 (codes "d")))))))
+          None)),
+    )
     -- a place is that of the first token inside parentheses
-    ∷ (codes "( a . b ) ( c ) ;", one (stmt 2 (s.Eval (expr 2 (e.Call (expr 2 (e.Member (name 2 (codes "a")) (codes "b"))) (name 12 (codes "c") ∷ []))))))
-    ∷ (codes "a = - b ? c : d , e", one (stmt 0 (s.Eval (expr 0 (e.Comma (expr 0 (e.Assign (name 0 (codes "a")) None (expr 4 (e.Conditional (expr 4 (e.Unary unary.Minus (name 6 (codes "b")))) (name 10 (codes "c")) (name 14 (codes "d")))))) (name 18 (codes "e")))))))
+    ∷ (
+      codes "( a . b ) ( c ) ;",
+      one (stmt 2 (s.Eval (expr 2 (e.Call (expr 2 (e.Member (name 2 (codes "a")) (codes "b"))) (name 12 (codes "c") ∷ []))))),
+    )
+    ∷ (
+      codes "a = - b ? c : d , e",
+      one (stmt 0 (s.Eval (expr 0 (e.Comma
+          (expr 0 (e.Assign (name 0 (codes "a")) None (expr 4 (e.Conditional
+          (expr 4 (e.Unary unary.Minus (name 6 (codes "b")))) (name 10 (codes "c")) (name 14 (codes "d"))))))
+          (name 18 (codes "e")))))),
+    )
     ∷ (codes "[ a , , b , ]", one (stmt 0 (s.Eval (expr 0 (e.ArrayLit (Some (name 2 (codes "a")) ∷ None ∷ Some (name 8 (codes "b")) ∷ []))))))
-    ∷ (codes "__residual ( \"number\" , \"t\" , a )", one (stmt 0 (s.Eval (expr 0 (e.HostCall kind.Number (codes "t") (name 30 (codes "a") ∷ []))))))
+    ∷ (
+      codes "__residual ( \"number\" , \"t\" , a )",
+      one (stmt 0 (s.Eval (expr 0 (e.HostCall kind.Number (codes "t") (name 30 (codes "a") ∷ []))))),
+    )
     ∷ (codes "__abstract ( \"string\" , \"t\" )", one (stmt 0 (s.Eval (expr 0 (e.Input kind.Text (codes "t"))))))
-    ∷ (codes "for ( var a = b , c ; ; d ++ ) ;", one (stmt 0 (s.For (start.Var (declarator 10 (codes "a") (Some (name 14 (codes "b"))) ∷ declarator 18 (codes "c") None ∷ [])) None (Some (expr 24 (e.Step step.PostUp (name 24 (codes "d"))))) (stmt 31 s.Empty))))
-    ∷ (codes "for ( a . b in c ) ;", one (stmt 0 (s.ForIn (target.Expr (expr 6 (e.Member (name 6 (codes "a")) (codes "b")))) (name 15 (codes "c")) (stmt 19 s.Empty))))
+    ∷ (
+      codes "for ( var a = b , c ; ; d ++ ) ;",
+      one (stmt 0 (s.For
+          (start.Var (declarator 10 (codes "a") (Some (name 14 (codes "b"))) ∷ declarator 18 (codes "c") None ∷ []))
+          None
+          (Some (expr 24 (e.Step step.PostUp (name 24 (codes "d")))))
+          (stmt 31 s.Empty))),
+    )
+    ∷ (
+      codes "for ( a . b in c ) ;",
+      one (stmt 0 (s.ForIn (target.Expr (expr 6 (e.Member (name 6 (codes "a")) (codes "b")))) (name 15 (codes "c")) (stmt 19 s.Empty))),
+    )
     ∷ (codes "for ( var a in b ) ;", one (stmt 0 (s.ForIn (target.Var (place 10) (codes "a")) (name 15 (codes "b")) (stmt 19 s.Empty))))
-    ∷ (codes "try { a } catch ( b ) { } finally { ; }", one (stmt 0 (s.Try (stmt 6 (s.Eval (name 6 (codes "a"))) ∷ []) (Some (handler 18 (codes "b") [])) (Some (final (stmt 36 s.Empty ∷ []))))))
-    ∷ (codes "switch ( a ) { case b : c ; default : }", one (stmt 0 (s.Switch (name 9 (codes "a")) (clause (Some (name 20 (codes "b"))) (stmt 24 (s.Eval (name 24 (codes "c"))) ∷ []) ∷ clause None [] ∷ []))))
+    ∷ (
+      codes "try { a } catch ( b ) { } finally { ; }",
+      one (stmt 0 (s.Try
+          (stmt 6 (s.Eval (name 6 (codes "a"))) ∷ [])
+          (Some (handler 18 (codes "b") []))
+          (Some (final (stmt 36 s.Empty ∷ []))))),
+    )
+    ∷ (
+      codes "switch ( a ) { case b : c ; default : }",
+      one (stmt 0 (s.Switch (name 9 (codes "a"))
+          (clause (Some (name 20 (codes "b"))) (stmt 24 (s.Eval (name 24 (codes "c"))) ∷ []) ∷ clause None [] ∷ []))),
+    )
     ∷ (codes "do a ; while ( b ) ;", script (stmt 0 (s.DoWhile (stmt 3 (s.Eval (name 3 (codes "a")))) (name 15 (codes "b"))) ∷ []) [])
     -- functions have numbers in source order, an outer one before those inside it
-    ∷ (codes "x = { get a ( ) { } , b : 1 } ;", script (stmt 0 (s.Eval (expr 0 (e.Assign (name 0 (codes "x")) None (expr 4 (e.ObjectLit (field.Getter (place 10) (codes "a") (no 0) ∷ field.Value (place 22) (codes "b") (expr 26 (e.Literal (primitive.Number (pos 1)))) ∷ [])))))) ∷ []) (func 6 None [] [] ∷ []))
-    ∷ (codes "function a ( b ) { function c ( ) { } return function ( ) { } ; } function d ( ) { }", script (stmt 0 (s.FuncDecl (no 0)) ∷ stmt 66 (s.FuncDecl (no 3)) ∷ []) (func 0 (Some (declared 9 (codes "a"))) (declared 13 (codes "b") ∷ []) (stmt 19 (s.FuncDecl (no 1)) ∷ stmt 38 (s.Return (Some (expr 45 (e.Func (no 2))))) ∷ []) ∷ func 19 (Some (declared 28 (codes "c"))) [] [] ∷ func 45 None [] [] ∷ func 66 (Some (declared 75 (codes "d"))) [] [] ∷ []))
+    ∷ (
+      codes "x = { get a ( ) { } , b : 1 } ;",
+      script
+          (stmt 0 (s.Eval (expr 0 (e.Assign (name 0 (codes "x")) None (expr 4 (e.ObjectLit
+          (field.Getter (place 10) (codes "a") (no 0) ∷ field.Value (place 22) (codes "b") (expr 26 (e.Literal (primitive.Number (pos 1))))
+          ∷ [])))))) ∷ [])
+          (func 6 None [] [] ∷ []),
+    )
+    ∷ (
+      codes "function a ( b ) { function c ( ) { } return function ( ) { } ; } function d ( ) { }",
+      script
+          (stmt 0 (s.FuncDecl (no 0)) ∷ stmt 66 (s.FuncDecl (no 3)) ∷ [])
+          (func 0 (Some (declared 9 (codes "a"))) (declared 13 (codes "b") ∷ [])
+          (stmt 19 (s.FuncDecl (no 1)) ∷ stmt 38 (s.Return (Some (expr 45 (e.Func (no 2))))) ∷ [])
+          ∷ func 19 (Some (declared 28 (codes "c"))) [] []
+          ∷ func 45 None [] []
+          ∷ func 66 (Some (declared 75 (codes "d"))) [] []
+          ∷ []),
+    )
     ∷ []
 
 -- these texts are these scripts

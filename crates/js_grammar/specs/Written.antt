@@ -1,5 +1,6 @@
 -- Short texts for cases: tokens with a space between them.
-use Rattle.std.specs.Prelude.{ℕ, pos, ◌+◌, ◌-◌, ◌*◌, ◌==◌, Bool, true, false, if◌then◌else◌, List, [], ◌∷◌, length, map, take, drop, fold, slice_index, Option, Some, None}
+use Rattle.std.specs.Prelude.{ℕ, pos, ◌+◌, ◌-◌, ◌*◌, ◌==◌, Bool, true, false, if◌then◌else◌, List, [], ◌∷◌, length, map, take, drop, fold}
+use Rattle.std.specs.Prelude.{slice_index, Option, Some, None}
 use Rattle.std.specs.Char.{is_ascii_digit}
 use Rattle.std.specs.List.{slice_split}
 use Rattle.js_tree.specs.Refusals.{place}
@@ -22,7 +23,9 @@ abbrev pub string_text : List ℕ → List ℕ
 string_text w = map (λ c. if c == 95 then 32 else c) (take (length w - 2) (drop 1 w))
 
 abbrev pub string_or_else : List ℕ → TokenForm
-string_or_else w = if slice_index w 0 == 34 then form.Str (string_text w) else (if slice_index w 0 == 39 then form.Str (string_text w) else number_or_name w)
+string_or_else w =
+    if slice_index w 0 == 34 then form.Str (string_text w)
+    else (if slice_index w 0 == 39 then form.Str (string_text w) else number_or_name w)
 
 abbrev pub mark_or_else : List ℕ → Option Punctuator → TokenForm
 mark_or_else w None = string_or_else w

@@ -8,9 +8,8 @@ ghost use Rattle.js_grammar.specs.OperatorCases.{OperatorCases};
 ghost use Rattle.js_grammar.specs.RefusalCases.{RefusalCases};
 ghost use Rattle.js_grammar.specs.TreeCases.{TreeCases};
 
-/// Cases of reading, worked out by hand: trees with their places, what is read, what is refused and where, how operators group, and how many parts may
-/// be open at once.
-#[tactic(auto, using(crate::proofs::Cases::height_cases, crate::proofs::Cases::tree_cases, crate::proofs::Cases::expression_cases, crate::proofs::Cases::statement_form_cases, crate::proofs::Cases::refusal_cases, crate::proofs::OperatorCases::operator_cases))]
+/// Cases of reading, worked out by hand: trees with their places, what is read, what is refused and where, how operators
+/// group, how many parts may be open at once, and how high a tree may be.
 pub fn reading_cases()
     ensures trees { TreeCases }
     ensures expressions { ExpressionCases }
