@@ -1,5 +1,5 @@
 -- The early checks: what is refused in a tree that was read, the least place first.
-use Rattle.std.specs.Prelude.{ℕ, ◌&&◌, Bool, true, false, not, if◌then◌else◌, nat_lt, List, [], ◌∷◌, ◌++◌, length, fold, Option, Some, None}
+use Rattle.std.specs.Prelude.{ℕ, ◌&&◌, Bool, true, false, not, if◌then◌else◌, ◌==◌, nat_lt, List, [], ◌∷◌, ◌++◌, fold, Option, Some, None}
 use Rattle.std.specs.List.{flat_map, list_any}
 use Rattle.std.specs.Str.{bytes_eq}
 use Rattle.js_value.specs.declared.place.Place.{Place}
@@ -12,7 +12,8 @@ use Rattle.js_tree.specs.declared.statement.Func.{Func}
 use Rattle.js_tree.specs.declared.statement.Script.{Script}
 use Rattle.js_tree.specs.declared.statement.Stmt.{Stmt, fold-Stmt}
 use Rattle.js_tree.specs.declared.statement.StmtForm.TheOpen.{StmtForm-F}
-use Rattle.js_tree.specs.Mentions.{Mention, AssignsOwn, Takes, CallsHost, Repeats, mentions, all_mentions, joined, of_none}
+use Rattle.js_tree.specs.Mentions.{Mention, AssignsOwn, Takes, Repeats, mentions, joined, of_none}
+use Rattle.js_tree.specs.Forms.{in_script}
 
 -- ---- jumps (12.7 to 12.9): the places of those that leave a statement
 
@@ -105,16 +106,12 @@ lesser (Some least) e = if nat_lt (place_in e) (place_in least) then Some e else
 unfoldable pub early_fault : Script → Option ReadRefused
 early_fault s = fold lesser None (jump_faults s ++ mention_faults (mentions s))
 
--- ---- inputs and host calls
+-- ---- inputs and host calls, those in functions too
 
-abbrev pub is_form : Mention → Bool
-is_form (Takes at k name) = true
-is_form CallsHost = true
-is_form _ = false
-
--- how many of the two forms a script has
+-- how many host calls a script has
 unfoldable pub host_forms : Script → ℕ
-host_forms s = length (flat_map (λ (m : Mention). if is_form m then m ∷ [] else []) (all_mentions s))
+host_forms s = in_script (record { input = 0; host_call = 1 }) s
 
+-- neither an input nor a host call
 unfoldable pub is_closed : Script → Bool
-is_closed s = not (list_any is_form (all_mentions s))
+is_closed s = in_script (record { input = 1; host_call = 1 }) s == 0

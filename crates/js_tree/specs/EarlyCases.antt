@@ -13,7 +13,7 @@ use Rattle.js_tree.specs.declared.statement.Script.{Script}
 use Rattle.js_tree.specs.declared.statement.Stmt.{Stmt}
 use Rattle.js_tree.specs.declared.statement.StmtForm.TheVariants as s
 use Rattle.js_tree.specs.Early.{jump_faults, mention_faults, lesser, early_fault}
-use Rattle.js_tree.specs.Mentions.{Mention, Reads, Assigns, AssignsOwn, Takes, CallsHost, Repeats, Property, Valued, Got, Set, Inside, repeated, as_expression}
+use Rattle.js_tree.specs.Mentions.{Mention, Reads, Assigns, AssignsOwn, Takes, Repeats, Property, Valued, Got, Set, Inside, repeated, as_expression}
 use Rattle.js_tree.specs.Refusals.{place}
 use Rattle.js_tree.specs.Trees.{expr, name, stmt, no, declared, declarator, func, clause, handler, final, script, one}
 
@@ -87,8 +87,6 @@ own_name_rows =
     ∷ ((codes "a" ∷ [], Reads (place 20) (codes "a") ∷ []), [])
     ∷ ((codes "a" ∷ [], Assigns (place 20) (codes "b") ∷ []), Assigns (place 20) (codes "b") ∷ [])
     ∷ (([], Assigns (place 20) (codes "a") ∷ []), Assigns (place 20) (codes "a") ∷ [])
-    -- a parameter or a `var` with this name: the inside mentions it no more
-    ∷ ((codes "a" ∷ [], []), [])
     ∷ []
 
 -- ---- what mentions are refused
@@ -97,7 +95,7 @@ abbrev pub mention_rows : List (List Mention × List ReadRefused)
 mention_rows =
     (Repeats (place 8) ∷ [], Syntax (place 8) ∷ [])
     ∷ (AssignsOwn (place 8) ∷ [], Unsupported (place 8) feature.OwnName ∷ [])
-    ∷ (Reads (place 0) (codes "a") ∷ Assigns (place 4) (codes "a") ∷ CallsHost ∷ [], [])
+    ∷ (Reads (place 0) (codes "a") ∷ Assigns (place 4) (codes "a") ∷ [], [])
     ∷ (Takes (place 0) kind.Number (codes "a") ∷ Takes (place 30) kind.Boolean (codes "a") ∷ [], Unsupported (place 30) feature.AbstractType ∷ [])
     ∷ (Takes (place 30) kind.Boolean (codes "a") ∷ Takes (place 0) kind.Number (codes "a") ∷ [], Unsupported (place 30) feature.AbstractType ∷ [])
     ∷ (Takes (place 0) kind.Text (codes "a") ∷ Takes (place 30) kind.Text (codes "a") ∷ [], [])

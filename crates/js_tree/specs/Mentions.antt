@@ -1,4 +1,4 @@
--- What a script mentions, in source order: names, inputs, host calls, and properties given twice.
+-- What a script mentions, in source order: names, inputs, and properties given twice.
 use Rattle.std.specs.Prelude.{ℕ, ◌+◌, ◌-◌, ◌&&◌, Bool, true, false, if◌then◌else◌, nat_lt, List, [], ◌∷◌, ◌++◌, map, slice_get, Option, Some, None}
 use Rattle.std.specs.List.{flat_map, list_any}
 use Rattle.std.specs.Str.{bytes_eq}
@@ -26,9 +26,8 @@ pub data Mention : Type 0 where
   Assigns : Place → List ℕ → Mention
   -- a function expression's own name that is assigned to
   AssignsOwn : Place → Mention
-  -- the two forms
+  -- an input
   Takes : Place → Kind → List ℕ → Mention
-  CallsHost : Mention
   -- a property given twice in a way that isn't allowed
   Repeats : Place → Mention
 
@@ -169,7 +168,7 @@ module _ (inside : FuncNo → List Mention) (declared : FuncNo → List Mention)
   form_mentions (ExprForm-F.Step op a) at = both a.1
   form_mentions (ExprForm-F.Comma a b) at = both (a.0 ++ b.0)
   form_mentions (ExprForm-F.Input kind text) at = both (Takes at kind text ∷ [])
-  form_mentions (ExprForm-F.HostCall kind text args) at = both (CallsHost ∷ all_of args)
+  form_mentions (ExprForm-F.HostCall kind text args) at = both (all_of args)
 
   abbrev pub field_mentions : Field-F (Place → Mentioned) FieldMentions Mentioned → FieldMentions
   field_mentions (Field-F.Value at key e) = ((at, key, Valued), e.0)
@@ -265,11 +264,6 @@ insides_from n (f ∷ fs) =
 
 abbrev pub insides : Script → List Inside
 insides s = insides_from 0 s.funcs
-
--- all that its code mentions, each function by itself
-unfoldable pub all_mentions : Script → List Mention
-all_mentions s =
-    body_mentions (λ _. []) (λ _. []) s.body ++ flat_map (λ (f : Func). body_mentions (λ _. []) (λ _. []) f.body) s.funcs
 
 -- all that a script mentions, its functions where they stand
 unfoldable pub mentions : Script → List Mention

@@ -5,6 +5,7 @@ ghost use Rattle.js_tree.specs.EarlyCases.{EarlyCases};
 
 mod count;
 mod expression;
+mod forms;
 mod refusal;
 mod simple;
 mod statement;
@@ -12,6 +13,7 @@ mod token;
 
 pub use count::nodes;
 pub use expression::{Elements, Expr, ExprForm, Exprs, Field, Fields, LogicOp, StepOp};
+pub use forms::{host_forms, is_closed};
 pub use refusal::{Feature, ReadRefused};
 pub use simple::{MOST_TERMS, SimpleToken, TAKEN_WORDS};
 pub use statement::{

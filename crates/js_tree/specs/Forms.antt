@@ -1,0 +1,108 @@
+-- How many inputs and host calls a script has.
+use Rattle.std.specs.Prelude.{ℕ, ◌+◌, List, map, sum, Option, Some, None}
+use Rattle.js_tree.specs.declared.expression.Expr.{Expr, fold-Expr}
+use Rattle.js_tree.specs.declared.expression.Field.{Field, fold-Field}
+use Rattle.js_tree.specs.declared.expression.ExprForm.{ExprForm, fold-ExprForm}
+use Rattle.js_tree.specs.declared.expression.ExprForm.TheOpen.{ExprForm-F}
+use Rattle.js_tree.specs.declared.statement.Declarator.{Declarator}
+use Rattle.js_tree.specs.declared.statement.ForStart.{ForStart}
+use Rattle.js_tree.specs.declared.statement.ForStart.TheVariants as start
+use Rattle.js_tree.specs.declared.statement.ForTarget.{ForTarget}
+use Rattle.js_tree.specs.declared.statement.ForTarget.TheVariants as target
+use Rattle.js_tree.specs.declared.statement.Stmt.{Stmt, fold-Stmt}
+use Rattle.js_tree.specs.declared.statement.Case.{Case, fold-Case}
+use Rattle.js_tree.specs.declared.statement.Catch.{Catch, fold-Catch}
+use Rattle.js_tree.specs.declared.statement.Finally.{Finally, fold-Finally}
+use Rattle.js_tree.specs.declared.statement.StmtForm.{StmtForm, fold-StmtForm}
+use Rattle.js_tree.specs.declared.statement.StmtForm.TheOpen.{StmtForm-F}
+use Rattle.js_tree.specs.declared.statement.Func.{Func}
+use Rattle.js_tree.specs.declared.statement.Script.{Script}
+use Rattle.js_tree.specs.declared.forms.Counts.{Counts}
+use Rattle.js_tree.specs.Count.{or_zero, of_field}
+use Rattle.js_tree.specs.Count as count
+
+-- each form counts what it is given, and what its parts count
+module _ (counts : Counts) where
+  abbrev pub of_form : ExprForm-F ℕ ℕ ℕ → ℕ
+  of_form (ExprForm-F.Input kind text) = counts.input
+  of_form (ExprForm-F.HostCall kind text args) = sum args + counts.host_call
+  of_form f = count.of_form f
+
+  abbrev pub in_form : ExprForm → ℕ
+  in_form = fold-ExprForm ℕ ℕ ℕ of_form of_field (λ e. e.form)
+
+  abbrev pub in_field : Field → ℕ
+  in_field = fold-Field ℕ ℕ ℕ of_form of_field (λ e. e.form)
+
+  abbrev pub in_expr : Expr → ℕ
+  in_expr = fold-Expr ℕ ℕ ℕ of_form of_field (λ e. e.form)
+
+  abbrev pub in_maybe : Option Expr → ℕ
+  in_maybe None = 0
+  in_maybe (Some e) = in_expr e
+
+  abbrev pub in_exprs : List Expr → ℕ
+  in_exprs es = sum (map in_expr es)
+
+  abbrev pub in_elements : List (Option Expr) → ℕ
+  in_elements es = sum (map in_maybe es)
+
+  abbrev pub in_fields : List Field → ℕ
+  in_fields fs = sum (map in_field fs)
+
+  abbrev pub in_declarators : List Declarator → ℕ
+  in_declarators ds = sum (map (λ d. in_maybe d.init) ds)
+
+  abbrev pub in_start : ForStart → ℕ
+  in_start start.Nothing = 0
+  in_start (start.Expr e) = in_expr e
+  in_start (start.Var ds) = in_declarators ds
+
+  abbrev pub in_target : ForTarget → ℕ
+  in_target (target.Expr e) = in_expr e
+  in_target (target.Var at name) = 0
+
+  abbrev pub of_stmt_form : StmtForm-F ℕ ℕ ℕ ℕ ℕ → ℕ
+  of_stmt_form (StmtForm-F.Var ds) = in_declarators ds
+  of_stmt_form (StmtForm-F.FuncDecl f) = 0
+  of_stmt_form (StmtForm-F.Eval e) = in_expr e
+  of_stmt_form (StmtForm-F.Block body) = sum body
+  of_stmt_form StmtForm-F.Empty = 0
+  of_stmt_form (StmtForm-F.If test a b) = in_expr test + a + or_zero b
+  of_stmt_form (StmtForm-F.DoWhile body test) = body + in_expr test
+  of_stmt_form (StmtForm-F.While test body) = in_expr test + body
+  of_stmt_form (StmtForm-F.For from test step body) = in_start from + in_maybe test + in_maybe step + body
+  of_stmt_form (StmtForm-F.ForIn to e body) = in_target to + in_expr e + body
+  of_stmt_form StmtForm-F.Continue = 0
+  of_stmt_form StmtForm-F.Break = 0
+  of_stmt_form (StmtForm-F.Return e) = in_maybe e
+  of_stmt_form (StmtForm-F.Switch e cases) = in_expr e + sum cases
+  of_stmt_form (StmtForm-F.Throw e) = in_expr e
+  of_stmt_form (StmtForm-F.Try body handler final) = sum body + or_zero handler + or_zero final
+
+  abbrev pub in_stmt_form : StmtForm → ℕ
+  in_stmt_form = fold-StmtForm ℕ ℕ ℕ ℕ ℕ of_stmt_form (λ c. in_maybe c.test + sum c.body) (λ c. sum c.body) (λ f. sum f.body) (λ s. s.form)
+
+  abbrev pub in_stmt : Stmt → ℕ
+  in_stmt = fold-Stmt ℕ ℕ ℕ ℕ ℕ of_stmt_form (λ c. in_maybe c.test + sum c.body) (λ c. sum c.body) (λ f. sum f.body) (λ s. s.form)
+
+  abbrev pub in_stmts : List Stmt → ℕ
+  in_stmts ss = sum (map in_stmt ss)
+
+  abbrev pub in_case : Case → ℕ
+  in_case = fold-Case ℕ ℕ ℕ ℕ ℕ of_stmt_form (λ c. in_maybe c.test + sum c.body) (λ c. sum c.body) (λ f. sum f.body) (λ s. s.form)
+
+  abbrev pub in_cases : List Case → ℕ
+  in_cases cs = sum (map in_case cs)
+
+  abbrev pub in_catch : Catch → ℕ
+  in_catch = fold-Catch ℕ ℕ ℕ ℕ ℕ of_stmt_form (λ c. in_maybe c.test + sum c.body) (λ c. sum c.body) (λ f. sum f.body) (λ s. s.form)
+
+  abbrev pub in_finally : Finally → ℕ
+  in_finally = fold-Finally ℕ ℕ ℕ ℕ ℕ of_stmt_form (λ c. in_maybe c.test + sum c.body) (λ c. sum c.body) (λ f. sum f.body) (λ s. s.form)
+
+  abbrev pub in_func : Func → ℕ
+  in_func f = in_stmts f.body
+
+  abbrev pub in_script : Script → ℕ
+  in_script s = in_stmts s.body + sum (map in_func s.funcs)
