@@ -5,6 +5,7 @@ ghost use Rattle.js_tree.specs.EarlyCases.{EarlyCases};
 
 mod count;
 mod expression;
+mod flat;
 mod forms;
 mod refusal;
 mod simple;
@@ -13,6 +14,7 @@ mod token;
 
 pub use count::nodes;
 pub use expression::{Elements, Expr, ExprForm, Exprs, Field, Fields, LogicOp, StepOp};
+pub use flat::is_flat;
 pub use forms::{host_forms, is_closed};
 pub use refusal::{Feature, ReadRefused};
 pub use simple::{MOST_TERMS, SimpleToken, TAKEN_WORDS};
