@@ -20,7 +20,8 @@ use Rattle.js_tree.specs.declared.statement.Stmt.{Stmt}
 use Rattle.js_tree.specs.declared.statement.Case.{Case, out-Case}
 use Rattle.js_tree.specs.declared.statement.StmtForm.TheFolds.{fold_out-StmtForm, fold_out-Case}
 use Rattle.js_tree.specs.declared.statement.StmtForm.TheVariants.{Block, outs-Block, Switch, outs-Switch}
-use Rattle.js_tree.specs.Flat.{callable_from, callable_behind, body_flat, Flatness, all, maybe_flat, of_form, of_field, in_form, in_field, in_expr, expr_flat, maybe_expr_flat, of_stmt_form, stmt_form_flat, stmt_flat, case_flat}
+use Rattle.js_tree.specs.Called.{callable_behind}
+use Rattle.js_tree.specs.Flat.{callable_from, body_flat, Flatness, all, maybe_flat, of_form, of_field, in_form, in_field, in_expr, expr_flat, maybe_expr_flat, of_stmt_form, stmt_form_flat, stmt_flat, case_flat}
 use Rattle.js_tree.proofs.Folds.{fold-layer}
 
 -- another number than that of the first

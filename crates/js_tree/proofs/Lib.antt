@@ -1,4 +1,5 @@
 pub mod Folds
 pub mod Statements
 pub mod EarlyCases
+pub mod FlatCases
 pub mod Flatness

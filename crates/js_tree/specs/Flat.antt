@@ -1,5 +1,5 @@
 -- Flat scripts: each part of their code runs at most once.
-use Rattle.std.specs.Prelude.{ℕ, ◌+◌, ◌&&◌, ◌==◌, Bool, true, false, if◌then◌else◌, List, [], ◌∷◌, drop, Option, Some, None, is_none}
+use Rattle.std.specs.Prelude.{ℕ, ◌+◌, ◌&&◌, ◌==◌, Bool, true, false, if◌then◌else◌, List, [], ◌∷◌, Option, Some, None, is_none}
 use Rattle.std.specs.List.{list_all}
 use Rattle.js_value.specs.declared.place.FuncNo.{FuncNo}
 use Rattle.js_tree.specs.declared.expression.Expr.{Expr, fold-Expr}
@@ -118,7 +118,3 @@ callable_from n (g ∷ gs) f =
 -- The flat part of a script is its global code and the bodies of the functions called in place in the flat part.
 unfoldable pub is_flat : Script → Bool
 is_flat s = body_flat (callable_from 0 s.funcs) s.body
-
--- the functions with number n and greater ones
-abbrev pub callable_behind : List Func → ℕ → FuncNo → Bool
-callable_behind funcs n = callable_from n (drop n funcs)

@@ -2,8 +2,8 @@
 
 ghost use Rattle.std.specs.Prelude.{◌≡◌};
 ghost use Rattle.std.specs.List.{list_all};
-ghost use Rattle.js_tree.specs.Called.{Tells};
-ghost use Rattle.js_tree.specs.Flat.{callable_behind, is_flat};
+ghost use Rattle.js_tree.specs.Called.{Tells, callable_behind};
+ghost use Rattle.js_tree.specs.Flat.{is_flat};
 ghost use Rattle.js_tree.specs.Flat as spec;
 
 use crate::{Case, Declarator, Expr, ExprForm, Field, Func, Script, Stmt, StmtForm};

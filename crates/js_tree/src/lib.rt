@@ -2,6 +2,7 @@
 #![tactic(auto)]
 
 ghost use Rattle.js_tree.specs.EarlyCases.{EarlyCases};
+ghost use Rattle.js_tree.specs.FlatCases.{FlatCases};
 
 mod count;
 mod expression;
@@ -10,6 +11,8 @@ mod forms;
 mod refusal;
 mod simple;
 mod statement;
+#[cfg(test)]
+mod tests;
 mod token;
 
 pub use count::nodes;
@@ -30,4 +33,10 @@ pub use token::{
 #[tactic(auto, using(crate::proofs::EarlyCases::early_cases))]
 pub fn early_check_cases()
     ensures { EarlyCases }
+{}
+
+/// Cases of host calls, closed scripts and flat scripts, worked out by hand.
+#[tactic(auto, using(crate::proofs::FlatCases::flat_cases))]
+pub fn flat_script_cases()
+    ensures { FlatCases }
 {}

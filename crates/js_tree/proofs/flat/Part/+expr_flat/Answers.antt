@@ -1,6 +1,7 @@
 use Rattle.std.proofs.Common.{ap, ◌∙◌, sym}
 use Rattle.std.specs.List.{list_all}
-use Rattle.js_tree.specs.Flat.{callable_behind, in_form, in_field, expr_flat, maybe_expr_flat}
+use Rattle.js_tree.specs.Called.{callable_behind}
+use Rattle.js_tree.specs.Flat.{in_form, in_field, expr_flat, maybe_expr_flat}
 use Rattle.js_tree.proofs.Flatness.{flat-ArrayLit, flat-ObjectLit, flat-HostCall}
 use Rattle.js_tree.proofs.flat.Part.+expr_flat.Goals as goal
 

@@ -1,6 +1,7 @@
 use Rattle.std.proofs.Common.{◌≡◌, take, true}
 use Rattle.std.specs.List.{list_all}
-use Rattle.js_tree.specs.Flat.{callable_behind, expr_flat, maybe_expr_flat, in_field}
+use Rattle.js_tree.specs.Called.{callable_behind}
+use Rattle.js_tree.specs.Flat.{expr_flat, maybe_expr_flat, in_field}
 use Rattle.js_tree.proofs.flat.Part.+expr_flat.Given as goal
 
 abbrev pub invariant-are_flat-loop-e : goal.invariant-are_flat-loop-e

@@ -2,7 +2,8 @@ use Rattle.std.proofs.Common.{ap, ◌∙◌, sym}
 use Rattle.std.specs.Prelude.{◌&&◌}
 use Rattle.std.specs.List.{list_all}
 use Rattle.js_tree.specs.declared.statement.Case.{out-Case}
-use Rattle.js_tree.specs.Flat.{callable_behind, stmt_form_flat, case_flat, body_flat}
+use Rattle.js_tree.specs.Called.{callable_behind}
+use Rattle.js_tree.specs.Flat.{stmt_form_flat, case_flat, body_flat}
 use Rattle.js_tree.proofs.Flatness.{flat-Block, flat-Switch, flat-Case}
 use Rattle.js_tree.proofs.flat.Part.+stmt_flat.Goals as goal
 

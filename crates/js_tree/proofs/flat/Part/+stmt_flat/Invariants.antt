@@ -1,6 +1,7 @@
 use Rattle.std.proofs.Common.{◌≡◌, take, true}
 use Rattle.std.specs.List.{list_all}
-use Rattle.js_tree.specs.Flat.{callable_behind, body_flat, case_flat}
+use Rattle.js_tree.specs.Called.{callable_behind}
+use Rattle.js_tree.specs.Flat.{body_flat, case_flat}
 use Rattle.js_tree.proofs.flat.Part.+stmt_flat.Given as goal
 
 abbrev pub invariant-body-loop-s : goal.invariant-body-loop-s

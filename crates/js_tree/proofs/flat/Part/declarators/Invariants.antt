@@ -1,5 +1,6 @@
 use Rattle.std.proofs.Common.{◌≡◌, take, true}
-use Rattle.js_tree.specs.Flat.{callable_behind, declarators_flat}
+use Rattle.js_tree.specs.Called.{callable_behind}
+use Rattle.js_tree.specs.Flat.{declarators_flat}
 use Rattle.js_tree.proofs.flat.Part.declarators.Given as goal
 
 abbrev pub invariant-loop-d : goal.invariant-loop-d
