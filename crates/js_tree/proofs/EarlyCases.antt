@@ -25,16 +25,16 @@ use Rattle.js_tree.specs.EarlyCases.{EarlyCases, jump_trees, property_rows, own_
 -- folds that take a place last
 
 module _ (P X Y B : Type 0) (form : ExprForm-F (P → X × Y) B (X × Y) → P → X × Y) (field : Field-F (P → X × Y) B (X × Y) → B) (expr : Expr-F (P → X × Y) B (X × Y) → X × Y) where
-  expr_first : (x : Expr) → (fold-Expr (P → X × Y) B (X × Y) form field expr x).0 ≡ (expr (record { at = x.at; form = fold-ExprForm (P → X × Y) B (X × Y) form field expr x.form })).0
+  pub expr_first : (x : Expr) → (fold-Expr (P → X × Y) B (X × Y) form field expr x).0 ≡ (expr (record { at = x.at; form = fold-ExprForm (P → X × Y) B (X × Y) form field expr x.form })).0
   expr_first x = ap (λ p. p.0) (fold_out-Expr (P → X × Y) B (X × Y) form field expr x)
 
-  expr_second : (x : Expr) → (fold-Expr (P → X × Y) B (X × Y) form field expr x).1 ≡ (expr (record { at = x.at; form = fold-ExprForm (P → X × Y) B (X × Y) form field expr x.form })).1
+  pub expr_second : (x : Expr) → (fold-Expr (P → X × Y) B (X × Y) form field expr x).1 ≡ (expr (record { at = x.at; form = fold-ExprForm (P → X × Y) B (X × Y) form field expr x.form })).1
   expr_second x = ap (λ p. p.1) (fold_out-Expr (P → X × Y) B (X × Y) form field expr x)
 
-  form_first : (f : ExprForm) (at : P) → (fold-ExprForm (P → X × Y) B (X × Y) form field expr f at).0 ≡ (form (map-ExprForm ExprForm Field Expr (P → X × Y) B (X × Y) (fold-ExprForm (P → X × Y) B (X × Y) form field expr) (fold-Field (P → X × Y) B (X × Y) form field expr) (fold-Expr (P → X × Y) B (X × Y) form field expr) (out-ExprForm f)) at).0
+  pub form_first : (f : ExprForm) (at : P) → (fold-ExprForm (P → X × Y) B (X × Y) form field expr f at).0 ≡ (form (map-ExprForm ExprForm Field Expr (P → X × Y) B (X × Y) (fold-ExprForm (P → X × Y) B (X × Y) form field expr) (fold-Field (P → X × Y) B (X × Y) form field expr) (fold-Expr (P → X × Y) B (X × Y) form field expr) (out-ExprForm f)) at).0
   form_first f at = ap (λ g. (g at).0) (fold_out-ExprForm (P → X × Y) B (X × Y) form field expr f)
 
-  form_second : (f : ExprForm) (at : P) → (fold-ExprForm (P → X × Y) B (X × Y) form field expr f at).1 ≡ (form (map-ExprForm ExprForm Field Expr (P → X × Y) B (X × Y) (fold-ExprForm (P → X × Y) B (X × Y) form field expr) (fold-Field (P → X × Y) B (X × Y) form field expr) (fold-Expr (P → X × Y) B (X × Y) form field expr) (out-ExprForm f)) at).1
+  pub form_second : (f : ExprForm) (at : P) → (fold-ExprForm (P → X × Y) B (X × Y) form field expr f at).1 ≡ (form (map-ExprForm ExprForm Field Expr (P → X × Y) B (X × Y) (fold-ExprForm (P → X × Y) B (X × Y) form field expr) (fold-Field (P → X × Y) B (X × Y) form field expr) (fold-Expr (P → X × Y) B (X × Y) form field expr) (out-ExprForm f)) at).1
   form_second f at = ap (λ g. (g at).1) (fold_out-ExprForm (P → X × Y) B (X × Y) form field expr f)
 
 module _ (P A B C D E : Type 0) (form : StmtForm-F (P → A) B C D E → P → A) (clause : Case-F (P → A) B C D E → B) (handler : Catch-F (P → A) B C D E → C)

@@ -247,7 +247,8 @@ fn callable(funcs: &[Func], first: usize, f: FuncNo) -> bool
         first: f.0 + 1,
         callable,
     };
-    func.name.is_none() && part.body(func.body.as_slice())
+    let is_nameless = func.name.is_none();
+    is_nameless && part.body(func.body.as_slice())
 }
 
 /// Whether a script is flat: its global code, and the bodies of the functions that are called in place in the flat part,

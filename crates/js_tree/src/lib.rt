@@ -3,6 +3,7 @@
 
 ghost use Rattle.js_tree.specs.EarlyCases.{EarlyCases};
 ghost use Rattle.js_tree.specs.FlatCases.{FlatCases};
+ghost use Rattle.js_tree.specs.NameCases.{NameCases};
 
 mod count;
 mod expression;
@@ -39,4 +40,10 @@ pub fn early_check_cases()
 #[tactic(auto, using(crate::proofs::FlatCases::flat_cases))]
 pub fn flat_script_cases()
     ensures { FlatCases }
+{}
+
+/// Cases of free and of hoisted names, worked out by hand.
+#[tactic(auto, using(crate::proofs::NameCases::name_cases))]
+pub fn name_cases()
+    ensures { NameCases }
 {}
