@@ -1,5 +1,5 @@
 -- The cases of host calls, closed and flat scripts compute, each fold opened form by form.
-use Rattle.std.proofs.Common.{◌≡◌, ap, ◌∙◌, map, Bool}
+use Rattle.std.proofs.Common.{◌≡◌, ap, map, Bool}
 use Rattle.js_value.specs.declared.place.FuncNo.{FuncNo}
 use Rattle.js_tree.specs.declared.expression.Expr.{Expr}
 use Rattle.js_tree.specs.declared.expression.Field.{Field}

@@ -21,7 +21,7 @@ use Rattle.js_tree.specs.declared.statement.Case.{Case, out-Case}
 use Rattle.js_tree.specs.declared.statement.StmtForm.TheFolds.{fold_out-StmtForm, fold_out-Case}
 use Rattle.js_tree.specs.declared.statement.StmtForm.TheVariants.{Block, outs-Block, Switch, outs-Switch}
 use Rattle.js_tree.specs.Called.{callable_behind}
-use Rattle.js_tree.specs.Flat.{callable_from, body_flat, Flatness, all, maybe_flat, of_form, of_field, in_form, in_field, in_expr, expr_flat, maybe_expr_flat, of_stmt_form, stmt_form_flat, stmt_flat, case_flat}
+use Rattle.js_tree.specs.Flat.{callable_from, body_flat, Flatness, all, maybe_flat, of_form, of_field, in_form, in_field, in_expr, expr_flat, maybe_expr_flat, of_stmt_form, of_case, stmt_form_flat, stmt_flat, case_flat}
 use Rattle.js_tree.proofs.Folds.{fold-layer}
 
 -- another number than that of the first
@@ -110,17 +110,17 @@ module _ (callable : FuncNo → Bool) where
 
   pub flat-Block : (body : List Stmt) → stmt_form_flat callable (Block body) ≡ body_flat callable body
   flat-Block body =
-      fold_out-StmtForm Bool Bool Bool Bool Bool (of_stmt_form callable) (λ c. maybe_expr_flat callable c.test && all c.body) (λ c. all c.body) (λ f. all f.body) (λ s. s.form) (Block body)
+      fold_out-StmtForm Bool Bool Bool Bool Bool (of_stmt_form callable) (of_case callable) (λ c. all c.body) (λ f. all f.body) (λ s. s.form) (Block body)
       ∙ rw (outs-Block body) (list_all-along (λ b. b) (stmt_flat callable) (stmt_flat callable) (λ s. refl) body)
 
   pub flat-Switch : (e : Expr) (cases : List Case) → stmt_form_flat callable (Switch e cases) ≡ (expr_flat callable e && list_all (case_flat callable) cases)
   flat-Switch e cases =
-      fold_out-StmtForm Bool Bool Bool Bool Bool (of_stmt_form callable) (λ c. maybe_expr_flat callable c.test && all c.body) (λ c. all c.body) (λ f. all f.body) (λ s. s.form) (Switch e cases)
+      fold_out-StmtForm Bool Bool Bool Bool Bool (of_stmt_form callable) (of_case callable) (λ c. all c.body) (λ f. all f.body) (λ s. s.form) (Switch e cases)
       ∙ rw (outs-Switch e cases) (ap (λ b. expr_flat callable e && b) (list_all-along (λ b. b) (case_flat callable) (case_flat callable) (λ c. refl) cases))
 
   pub flat-Case : (c : Case) → case_flat callable c ≡ (maybe_expr_flat callable (out-Case c).test && body_flat callable (out-Case c).body)
   flat-Case c =
-      fold_out-Case Bool Bool Bool Bool Bool (of_stmt_form callable) (λ c. maybe_expr_flat callable c.test && all c.body) (λ c. all c.body) (λ f. all f.body) (λ s. s.form) c
+      fold_out-Case Bool Bool Bool Bool Bool (of_stmt_form callable) (of_case callable) (λ c. all c.body) (λ f. all f.body) (λ s. s.form) c
       ∙ ap (λ b. maybe_expr_flat callable (out-Case c).test && b) (list_all-along (λ b. b) (stmt_flat callable) (stmt_flat callable) (λ s. refl) (out-Case c).body)
 
 pub ruleset flatness = (list_all_at, list_all_more, flat-Call, flat-HostCall, flat-ArrayLit, flat-ObjectLit, flat-Block, flat-Switch, flat-Case)

@@ -12,7 +12,7 @@ use Rattle.js_tree.specs.declared.statement.Script.{Script}
 use Rattle.js_tree.specs.declared.statement.Stmt.{Stmt, fold-Stmt}
 use Rattle.js_tree.specs.declared.statement.Case.{Case, fold-Case}
 use Rattle.js_tree.specs.declared.statement.StmtForm.{StmtForm, fold-StmtForm}
-use Rattle.js_tree.specs.declared.statement.StmtForm.TheOpen.{StmtForm-F}
+use Rattle.js_tree.specs.declared.statement.StmtForm.TheOpen.{StmtForm-F, Case-F}
 
 abbrev pub all : List Bool → Bool
 all bs = list_all (λ b. b) bs
@@ -96,14 +96,17 @@ module _ (callable : FuncNo → Bool) where
   of_stmt_form (StmtForm-F.Switch e cases) = expr_flat e && all cases
   of_stmt_form _ = false
 
+  abbrev pub of_case : Case-F Bool Bool Bool Bool Bool → Bool
+  of_case c = maybe_expr_flat c.test && all c.body
+
   abbrev pub stmt_form_flat : StmtForm → Bool
-  stmt_form_flat = fold-StmtForm Bool Bool Bool Bool Bool of_stmt_form (λ c. maybe_expr_flat c.test && all c.body) (λ c. all c.body) (λ f. all f.body) (λ s. s.form)
+  stmt_form_flat = fold-StmtForm Bool Bool Bool Bool Bool of_stmt_form of_case (λ c. all c.body) (λ f. all f.body) (λ s. s.form)
 
   abbrev pub stmt_flat : Stmt → Bool
-  stmt_flat = fold-Stmt Bool Bool Bool Bool Bool of_stmt_form (λ c. maybe_expr_flat c.test && all c.body) (λ c. all c.body) (λ f. all f.body) (λ s. s.form)
+  stmt_flat = fold-Stmt Bool Bool Bool Bool Bool of_stmt_form of_case (λ c. all c.body) (λ f. all f.body) (λ s. s.form)
 
   abbrev pub case_flat : Case → Bool
-  case_flat = fold-Case Bool Bool Bool Bool Bool of_stmt_form (λ c. maybe_expr_flat c.test && all c.body) (λ c. all c.body) (λ f. all f.body) (λ s. s.form)
+  case_flat = fold-Case Bool Bool Bool Bool Bool of_stmt_form of_case (λ c. all c.body) (λ f. all f.body) (λ s. s.form)
 
   abbrev pub body_flat : List Stmt → Bool
   body_flat body = list_all stmt_flat body

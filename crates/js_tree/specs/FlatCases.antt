@@ -1,10 +1,9 @@
 -- Cases of host calls, closed scripts and flat scripts, worked out by hand: each tree behind its text. No place decides anything here: each is 0.
-use Rattle.std.specs.Prelude.{◌≡◌, ℕ, Bool, true, false, codes, List, [], ◌∷◌, map, Option, Some, None}
+use Rattle.std.specs.Prelude.{◌≡◌, ℕ, Bool, true, false, codes, List, [], ◌∷◌, map, Some, None}
 use Rattle.js_value.specs.declared.primitive.Kind.TheVariants as kind
 use Rattle.js_tree.specs.declared.expression.Expr.{Expr}
 use Rattle.js_tree.specs.declared.expression.ExprForm.{ExprForm}
 use Rattle.js_tree.specs.declared.expression.ExprForm.TheVariants as e
-use Rattle.js_tree.specs.declared.expression.Field.{Field}
 use Rattle.js_tree.specs.declared.expression.Field.TheVariants as field
 use Rattle.js_tree.specs.declared.statement.Func.{Func}
 use Rattle.js_tree.specs.declared.statement.ForStart.TheVariants as start

@@ -1,4 +1,4 @@
--- How many inputs and host calls a script has.
+-- How many inputs and host calls a script has, where each counts what is given for its form.
 use Rattle.std.specs.Prelude.{ℕ, ◌+◌, List, map, sum, Option, Some, None}
 use Rattle.js_tree.specs.declared.expression.Expr.{Expr, fold-Expr}
 use Rattle.js_tree.specs.declared.expression.Field.{Field, fold-Field}
@@ -14,14 +14,13 @@ use Rattle.js_tree.specs.declared.statement.Case.{Case, fold-Case}
 use Rattle.js_tree.specs.declared.statement.Catch.{Catch, fold-Catch}
 use Rattle.js_tree.specs.declared.statement.Finally.{Finally, fold-Finally}
 use Rattle.js_tree.specs.declared.statement.StmtForm.{StmtForm, fold-StmtForm}
-use Rattle.js_tree.specs.declared.statement.StmtForm.TheOpen.{StmtForm-F}
+use Rattle.js_tree.specs.declared.statement.StmtForm.TheOpen.{StmtForm-F, Case-F}
 use Rattle.js_tree.specs.declared.statement.Func.{Func}
 use Rattle.js_tree.specs.declared.statement.Script.{Script}
 use Rattle.js_tree.specs.declared.forms.Counts.{Counts}
 use Rattle.js_tree.specs.Count.{or_zero, of_field}
 use Rattle.js_tree.specs.Count as count
 
--- each form counts what it is given, and what its parts count
 module _ (counts : Counts) where
   abbrev pub of_form : ExprForm-F ℕ ℕ ℕ → ℕ
   of_form (ExprForm-F.Input kind text) = counts.input
@@ -80,26 +79,29 @@ module _ (counts : Counts) where
   of_stmt_form (StmtForm-F.Throw e) = in_expr e
   of_stmt_form (StmtForm-F.Try body handler final) = sum body + or_zero handler + or_zero final
 
+  abbrev pub of_case : Case-F ℕ ℕ ℕ ℕ ℕ → ℕ
+  of_case c = in_maybe c.test + sum c.body
+
   abbrev pub in_stmt_form : StmtForm → ℕ
-  in_stmt_form = fold-StmtForm ℕ ℕ ℕ ℕ ℕ of_stmt_form (λ c. in_maybe c.test + sum c.body) (λ c. sum c.body) (λ f. sum f.body) (λ s. s.form)
+  in_stmt_form = fold-StmtForm ℕ ℕ ℕ ℕ ℕ of_stmt_form of_case (λ c. sum c.body) (λ f. sum f.body) (λ s. s.form)
 
   abbrev pub in_stmt : Stmt → ℕ
-  in_stmt = fold-Stmt ℕ ℕ ℕ ℕ ℕ of_stmt_form (λ c. in_maybe c.test + sum c.body) (λ c. sum c.body) (λ f. sum f.body) (λ s. s.form)
+  in_stmt = fold-Stmt ℕ ℕ ℕ ℕ ℕ of_stmt_form of_case (λ c. sum c.body) (λ f. sum f.body) (λ s. s.form)
 
   abbrev pub in_stmts : List Stmt → ℕ
   in_stmts ss = sum (map in_stmt ss)
 
   abbrev pub in_case : Case → ℕ
-  in_case = fold-Case ℕ ℕ ℕ ℕ ℕ of_stmt_form (λ c. in_maybe c.test + sum c.body) (λ c. sum c.body) (λ f. sum f.body) (λ s. s.form)
+  in_case = fold-Case ℕ ℕ ℕ ℕ ℕ of_stmt_form of_case (λ c. sum c.body) (λ f. sum f.body) (λ s. s.form)
 
   abbrev pub in_cases : List Case → ℕ
   in_cases cs = sum (map in_case cs)
 
   abbrev pub in_catch : Catch → ℕ
-  in_catch = fold-Catch ℕ ℕ ℕ ℕ ℕ of_stmt_form (λ c. in_maybe c.test + sum c.body) (λ c. sum c.body) (λ f. sum f.body) (λ s. s.form)
+  in_catch = fold-Catch ℕ ℕ ℕ ℕ ℕ of_stmt_form of_case (λ c. sum c.body) (λ f. sum f.body) (λ s. s.form)
 
   abbrev pub in_finally : Finally → ℕ
-  in_finally = fold-Finally ℕ ℕ ℕ ℕ ℕ of_stmt_form (λ c. in_maybe c.test + sum c.body) (λ c. sum c.body) (λ f. sum f.body) (λ s. s.form)
+  in_finally = fold-Finally ℕ ℕ ℕ ℕ ℕ of_stmt_form of_case (λ c. sum c.body) (λ f. sum f.body) (λ s. s.form)
 
   abbrev pub in_func : Func → ℕ
   in_func f = in_stmts f.body

@@ -1,5 +1,5 @@
 -- Cases of free names (10.2.2, 13) and of hoisted names (10.5), worked out by hand: each tree behind its text. No place decides anything here: each is 0.
-use Rattle.std.specs.Prelude.{◌≡◌, ℕ, codes, List, [], ◌∷◌, map, Option, Some, None}
+use Rattle.std.specs.Prelude.{◌≡◌, ℕ, codes, List, [], ◌∷◌, map, Some, None}
 use Rattle.js_value.specs.declared.operator.BinaryOp.TheVariants as binary
 use Rattle.js_value.specs.declared.place.FuncNo.{FuncNo}
 use Rattle.js_value.specs.declared.primitive.Kind.TheVariants as kind
