@@ -1,10 +1,10 @@
 -- The early checks: what is refused in a tree that was read, the least place first.
-use Rattle.std.specs.Prelude.{ℕ, ◌&&◌, Bool, true, false, if◌then◌else◌, ◌==◌, nat_lt, List, [], ◌∷◌, ◌++◌, fold, Option, Some, None}
+use Rattle.std.specs.Prelude.{ℕ, ◌&&◌, Bool, true, false, not, if◌then◌else◌, ◌==◌, nat_lt, List, [], ◌∷◌, ◌++◌, fold, Option, Some, None}
 use Rattle.std.specs.List.{flat_map, list_any}
 use Rattle.std.specs.Str.{bytes_eq}
 use Rattle.js_value.specs.declared.place.Place.{Place}
 use Rattle.js_value.specs.declared.primitive.Kind.{Kind}
-use Rattle.js_value.specs.declared.primitive.Kind.TheVariants as kind
+use Rattle.js_value.specs.contracts.primitive.KindPartialEq.TheImpl.{ghosts}
 use Rattle.js_tree.specs.declared.refusal.Feature.TheVariants as feature
 use Rattle.js_tree.specs.declared.refusal.ReadRefused.{ReadRefused}
 use Rattle.js_tree.specs.declared.refusal.ReadRefused.TheVariants.{Syntax, Unsupported}
@@ -72,15 +72,9 @@ jump_faults s = syntax_all (places_in returns s.body) ++ loose_jumps s.body ++ f
 
 -- ---- names, properties and inputs
 
-abbrev pub kinds_differ : Kind → Kind → Bool
-kinds_differ kind.Number kind.Number = false
-kinds_differ kind.Boolean kind.Boolean = false
-kinds_differ kind.Text kind.Text = false
-kinds_differ _ _ = true
-
 -- the input has another type at an earlier place
 abbrev pub differs : Place → Kind → List ℕ → Mention → Bool
-differs at k name (Takes before other text) = nat_lt before.0 at.0 && bytes_eq name text && kinds_differ k other
+differs at k name (Takes before other text) = nat_lt before.0 at.0 && bytes_eq name text && not (ghosts.eq k other)
 differs at k name _ = false
 
 abbrev pub mention_fault : List Mention → Mention → List ReadRefused
