@@ -38,7 +38,7 @@ closed = simp (fold_out-Expr, fold_out-ExprForm, fold_out-Stmt, fold_out-StmtFor
 
 called : map (λ row. is_flat row.0) called_rows ≡ map (λ row. row.1) called_rows
 unfolding is_flat
-called = simp (expr_flat, expr_callable, form_flat, form_callable, fold_out-Stmt, fold_out-StmtForm, outs-Name, outs-Func, outs-Member, outs-Call, outs-Comma, outs-Eval)
+called = simp (expr_flat, expr_callable, form_flat, form_callable, fold_out-Stmt, fold_out-StmtForm, outs-Name, outs-Func, outs-Member, outs-Call, outs-New, outs-Comma, outs-Eval)
 
 parts : map (λ row. is_flat row.0) part_rows ≡ map (λ row. row.1) part_rows
 unfolding is_flat

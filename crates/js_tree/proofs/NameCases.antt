@@ -6,7 +6,7 @@ use Rattle.js_tree.specs.declared.expression.Field.TheVariants.{outs-Value}
 use Rattle.js_tree.specs.declared.statement.StmtForm.TheFolds.{fold_out-StmtForm, fold-roll-Case, fold-roll-Catch, fold-roll-Finally, fold_out-Stmt}
 use Rattle.js_tree.specs.declared.statement.StmtForm.TheVariants.{outs-Var, outs-FuncDecl, outs-Eval, outs-Block, outs-If, outs-DoWhile, outs-While, outs-For, outs-ForIn, outs-Switch, outs-Try}
 use Rattle.js_tree.specs.Mentions.{hoisted_vars, hoisted_functions, free_names}
-use Rattle.js_tree.specs.NameCases.{NameCases, order_rows, named_rows, bound_rows, own_rows, inner_rows, inner_bound_rows, catch_rows, var_rows, function_rows}
+use Rattle.js_tree.specs.NameCases.{NameCases, order_rows, named_rows, bound_rows, own_rows, inner_rows, inner_own_rows, inner_bound_rows, catch_rows, var_rows, function_rows}
 use Rattle.js_tree.specs.Trees.{no}
 use Rattle.js_tree.proofs.EarlyCases.{expr_first, expr_second, form_first, form_second}
 
@@ -30,6 +30,10 @@ inner : map (λ row. free_names row.0 (no row.1)) inner_rows ≡ map (λ row. ro
 unfolding free_names hoisted_vars hoisted_functions
 inner = simp (fold_out-Stmt, fold_out-StmtForm, expr_first, expr_second, form_first, form_second, outs-Name, outs-Func, outs-Assign, outs-Eval)
 
+inner_own : map (λ row. free_names row.0 (no row.1)) inner_own_rows ≡ map (λ row. row.2) inner_own_rows
+unfolding free_names hoisted_vars hoisted_functions
+inner_own = simp (fold_out-Stmt, fold_out-StmtForm, expr_first, expr_second, form_first, form_second, outs-Name, outs-Func, outs-Assign, outs-Eval)
+
 inner_bound : map (λ row. free_names row.0 (no row.1)) inner_bound_rows ≡ map (λ row. row.2) inner_bound_rows
 unfolding free_names hoisted_vars hoisted_functions
 inner_bound = simp (fold_out-Stmt, fold_out-StmtForm, expr_first, expr_second, form_first, form_second, outs-Name, outs-Func, outs-Assign, outs-Var, outs-Eval)
@@ -47,4 +51,4 @@ unfolding hoisted_functions
 functions = simp (outs-Var, outs-FuncDecl, outs-Eval, outs-Block)
 
 pub name_cases : NameCases
-name_cases = record { order = order; named = named; bound = bound; own = own; inner = inner; inner_bound = inner_bound; catch = catch; vars = vars; functions = functions }
+name_cases = record { order = order; named = named; bound = bound; own = own; inner = inner; inner_own = inner_own; inner_bound = inner_bound; catch = catch; vars = vars; functions = functions }

@@ -139,6 +139,8 @@ called_rows =
     ∷ (script (eval (e.Call (function 0) (b ∷ [])) ∷ []) (nameless [] ∷ []), true)
     -- ( function ( ) { } ) ( a ( ) )
     ∷ (script (eval (e.Call (function 0) (call ∷ [])) ∷ []) (nameless [] ∷ []), false)
+    -- new ( function ( ) { } ) ( )
+    ∷ (script (eval (e.New (function 0) []) ∷ []) (nameless [] ∷ []), false)
     -- in no text: a function that its own number calls in place
     ∷ (script (in_place 0 ∷ []) (nameless (in_place 0 ∷ []) ∷ []), false)
     -- in no text: a function that isn't there

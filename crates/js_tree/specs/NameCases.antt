@@ -146,6 +146,18 @@ inner_rows =
     )
     ∷ []
 
+abbrev pub inner_own_rows : List (Script × ℕ × Names)
+inner_own_rows =
+    -- function f ( ) { x = function g ( ) { g = b } }
+    (
+      declares (named (codes "f") (assigned (codes "x") (function 1) ∷ [])
+          ∷ named (codes "g") (assigned (codes "g") (n (codes "b")) ∷ [])
+          ∷ []),
+      0,
+      codes "x" ∷ codes "b" ∷ [],
+    )
+    ∷ []
+
 abbrev pub inner_bound_rows : List (Script × ℕ × Names)
 inner_bound_rows =
     -- function f ( ) { x = function ( a ) { var b ; a ; b ; c } ; a }
@@ -242,6 +254,7 @@ pub record NameCases : Type 0 where
   pub bound : map (λ row. free_names row.0 (no row.1)) bound_rows ≡ map (λ row. row.2) bound_rows
   pub own : map (λ row. free_names row.0 (no row.1)) own_rows ≡ map (λ row. row.2) own_rows
   pub inner : map (λ row. free_names row.0 (no row.1)) inner_rows ≡ map (λ row. row.2) inner_rows
+  pub inner_own : map (λ row. free_names row.0 (no row.1)) inner_own_rows ≡ map (λ row. row.2) inner_own_rows
   pub inner_bound : map (λ row. free_names row.0 (no row.1)) inner_bound_rows ≡ map (λ row. row.2) inner_bound_rows
   pub catch : map (λ row. free_names row.0 (no row.1)) catch_rows ≡ map (λ row. row.2) catch_rows
   pub vars : map (λ row. hoisted_vars row.0) var_rows ≡ map (λ row. row.1) var_rows
