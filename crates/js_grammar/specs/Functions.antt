@@ -1,16 +1,21 @@
 -- Names and functions (13, 14).
-use Rattle.std.specs.Prelude.{ℕ, ◌+◌, ◌==◌, length, ◌&&◌, Bool, true, false, if◌then◌else◌, List, [], ◌∷◌, ◌++◌, Option, Some, None, Ok}
+use Rattle.std.specs.Prelude.{◌&&◌, Bool, true, false, if◌then◌else◌, List, [], ◌∷◌, ◌++◌, Option, Some, None, Ok}
 use Rattle.std.specs.Option.{option_or}
 use Rattle.js_value.specs.declared.place.Place.{Place}
 use Rattle.js_value.specs.declared.place.FuncNo.{FuncNo}
+use Rattle.js_value.specs.declared.primitive.Primitive.TheVariants as primitive
 use Rattle.js_tree.specs.declared.expression.Expr.{Expr}
+use Rattle.js_tree.specs.declared.expression.ExprForm.{out-ExprForm}
+use Rattle.js_tree.specs.declared.expression.ExprForm.TheOpen.{ExprForm-F}
 use Rattle.js_tree.specs.declared.refusal.Feature.TheVariants as feature
 use Rattle.js_tree.specs.declared.statement.Name.{Name}
 use Rattle.js_tree.specs.declared.statement.Func.{Func}
 use Rattle.js_tree.specs.declared.statement.Stmt.{Stmt}
+use Rattle.js_tree.specs.declared.statement.StmtForm.{out-StmtForm}
+use Rattle.js_tree.specs.declared.statement.StmtForm.TheOpen.{StmtForm-F}
 use Rattle.js_tree.specs.declared.token.Token.{Token}
 use Rattle.js_grammar.specs.Rest.{Reading, ◌>>=◌, ◌>>◌, give, here, sees, next, expect, unless, unsupported, repeat, part, numbered}
-use Rattle.js_grammar.specs.Marks.{left_brace, right_brace, left_parenthesis, right_parenthesis, comma, semicolon, identifier, string, barred}
+use Rattle.js_grammar.specs.Marks.{left_brace, right_brace, left_parenthesis, right_parenthesis, comma, identifier, string, barred}
 use Rattle.js_grammar.specs.Marks.{form_name, function_word, is_use_strict}
 
 -- The productions that others refer to before they are defined. Each is used behind a token of the production that refers to it.
@@ -46,27 +51,20 @@ parameters = next right_parenthesis (λ _. give []) (repeat more_parameters [])
 
 -- ---- directive prologues (14.1)
 
-abbrev pub starts_with_string : List Token → Bool
-starts_with_string [] = false
-starts_with_string (t ∷ ts) = elim (string t.form) [ None ↦ false | Some text ↦ true ]
+abbrev pub is_string_literal : Expr → Bool
+is_string_literal x = elim (out-ExprForm x.form) [ ExprForm-F.Literal value ↦ elim value [ primitive.Text text ↦ true | _ ↦ false ] | _ ↦ false ]
+
+-- a statement of one string; parentheses before it leave no trace
+abbrev pub is_string_statement : Stmt → Bool
+is_string_statement t = elim (out-StmtForm t.form) [ StmtForm-F.Eval x ↦ is_string_literal x | _ ↦ false ]
+
+-- a statement whose first token is a string, and that is this string, behind directives alone
+abbrev pub is_directive : Bool → Bool → Stmt → Bool
+is_directive leads is_string t = leads && is_string && is_string_statement t
 
 abbrev pub starts_with_use_strict : List Token → Bool
 starts_with_use_strict [] = false
 starts_with_use_strict (t ∷ ts) = is_use_strict t
-
-abbrev pub is_string_next : Reading Bool
-is_string_next = λ s. Ok (starts_with_string s.tokens, s)
-
-abbrev pub is_semicolon : Option Token → Bool
-is_semicolon None = false
-is_semicolon (Some t) = elim (semicolon t.form) [ None ↦ false | Some _ ↦ true ]
-
-abbrev pub left : Reading ℕ
-left = λ s. Ok (length s.tokens, s)
-
--- of so many tokens one was read, but for a semicolon
-abbrev pub one_was_read : ℕ → Reading Bool
-one_was_read before = λ s. Ok (before == length s.tokens + (if is_semicolon s.last then 2 else 1), s)
 
 abbrev pub is_use_strict_next : Reading Bool
 is_use_strict_next = λ s. Ok (starts_with_use_strict s.tokens, s)
@@ -78,13 +76,10 @@ module _ (g : Grammar) where
   abbrev pub element_behind : Bool → Reading (Stmt × Bool)
   element_behind leads = do
     at ← here
-    is_string ← is_string_next
+    is_string ← sees string
     is_strict ← is_use_strict_next
-    before ← left
     s ← part g.element
-    alone ← one_was_read before
-    let is_directive : Bool = leads && is_string && alone
-    if is_directive && is_strict then unsupported at feature.StrictCode else give (s, is_directive)
+    if is_strict && is_directive leads is_string s then unsupported at feature.StrictCode else give (s, is_directive leads is_string s)
 
   abbrev pub more_elements : Reading Bool → (List Stmt × Bool → Reading (List Stmt)) → List Stmt × Bool → Reading (List Stmt)
   more_elements closed again so_far = do

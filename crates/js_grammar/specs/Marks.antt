@@ -160,10 +160,14 @@ barred name =
     else (if bytes_eq name (codes "arguments") then Some feature.Arguments else None)
 
 -- the names of the two forms
+abbrev pub is_abstract : List ℕ → Bool
+is_abstract name = bytes_eq name (codes "__abstract")
+
+abbrev pub is_residual : List ℕ → Bool
+is_residual name = bytes_eq name (codes "__residual")
+
 abbrev pub form_name : List ℕ → Option Feature
-form_name name =
-    if bytes_eq name (codes "__abstract") then Some feature.AbstractForm
-    else (if bytes_eq name (codes "__residual") then Some feature.ResidualForm else None)
+form_name name = if is_abstract name then Some feature.AbstractForm else (if is_residual name then Some feature.ResidualForm else None)
 
 abbrev pub get_word : List ℕ
 get_word = codes "get"

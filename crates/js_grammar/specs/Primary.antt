@@ -77,9 +77,11 @@ module _ (g : Grammar) where
 
   -- ---- primary expressions (11.1)
 
-  abbrev pub by_form_name : Place → List ℕ → Option Feature → Reading Expr
-  by_form_name at text None = name_behind at text
-  by_form_name at text (Some what) = elim what [ feature.AbstractForm ↦ abstract_behind at | _ ↦ residual_behind at ]
+  -- a name, or one of the two forms
+  abbrev pub named_behind : Place → List ℕ → Reading Expr
+  named_behind at text =
+      if Marks.is_abstract text then abstract_behind at
+      else (if Marks.is_residual text then residual_behind at else name_behind at text)
 
   -- 11.1.4: elements behind those so far, with a comma behind each that isn't the last, and elisions
   abbrev pub more_elements : (List (Option Expr) → Reading (List (Option Expr))) → List (Option Expr) → Reading (List (Option Expr))
@@ -162,7 +164,7 @@ module _ (g : Grammar) where
     function ← sees Marks.function_word
     if function then function_here at else (
         next Marks.literal (λ f. finish at f) (
-        next Marks.identifier (λ text. by_form_name at text (Marks.form_name text)) (
+        next Marks.identifier (λ text. named_behind at text) (
         next Marks.left_bracket (λ _. array_behind at) (
         next Marks.left_brace (λ _. object_behind at) (
         next Marks.left_parenthesis (λ _. group_behind) (

@@ -29,6 +29,29 @@ use Rattle.js_grammar.specs.Ends.{ends, continues_expression, continues_declared
 use Rattle.js_grammar.specs.Declarators.{initialiser, declarators_behind}
 use Rattle.js_grammar.specs.Blocks.{statements, statements_behind_brace, braced}
 
+-- The statements that begin with a token of their own, among them the empty one (12.3).
+pub data Beginning : Type 0 where
+  Block Empty Var If Do While For Continue Break Return With Switch Throw Try Debugger Function : Beginning
+
+abbrev pub beginning : TokenForm → Option Beginning
+beginning (form.Punctuator mark.LeftBrace) = Some Block
+beginning (form.Punctuator mark.Semicolon) = Some Empty
+beginning (form.Reserved word.Var) = Some Var
+beginning (form.Reserved word.If) = Some If
+beginning (form.Reserved word.Do) = Some Do
+beginning (form.Reserved word.While) = Some While
+beginning (form.Reserved word.For) = Some For
+beginning (form.Reserved word.Continue) = Some Continue
+beginning (form.Reserved word.Break) = Some Break
+beginning (form.Reserved word.Return) = Some Return
+beginning (form.Reserved word.With) = Some With
+beginning (form.Reserved word.Switch) = Some Switch
+beginning (form.Reserved word.Throw) = Some Throw
+beginning (form.Reserved word.Try) = Some Try
+beginning (form.Reserved word.Debugger) = Some Debugger
+beginning (form.Reserved word.Function) = Some Function
+beginning _ = None
+
 module _ (g : Grammar) where
   -- ---- 12.1
 
@@ -260,31 +283,29 @@ module _ (g : Grammar) where
 
   -- ---- 12
 
-  -- The statements that begin with a token of their own: among them the empty one (12.3). `with` (12.10) and `debugger` (12.15)
-  -- aren't supported.
-  abbrev pub by_first : Place → TokenForm → Option (Reading Stmt)
-  by_first at (form.Punctuator mark.LeftBrace) = Some (block_behind at)
-  by_first at (form.Punctuator mark.Semicolon) = Some (finish_stmt at s.Empty)
-  by_first at (form.Reserved word.Var) = Some (var_behind at)
-  by_first at (form.Reserved word.If) = Some (if_behind at)
-  by_first at (form.Reserved word.Do) = Some (do_behind at)
-  by_first at (form.Reserved word.While) = Some (while_behind at)
-  by_first at (form.Reserved word.For) = Some (for_behind at)
-  by_first at (form.Reserved word.Continue) = Some (jump_behind s.Continue at)
-  by_first at (form.Reserved word.Break) = Some (jump_behind s.Break at)
-  by_first at (form.Reserved word.Return) = Some (return_behind at)
-  by_first at (form.Reserved word.With) = Some (unsupported at feature.With)
-  by_first at (form.Reserved word.Switch) = Some (switch_behind at)
-  by_first at (form.Reserved word.Throw) = Some (throw_behind at)
-  by_first at (form.Reserved word.Try) = Some (try_behind at)
-  by_first at (form.Reserved word.Debugger) = Some (unsupported at feature.Debugger)
-  by_first at (form.Reserved word.Function) = Some (unsupported at feature.FunctionInBlock)
-  by_first at _ = None
+  -- `with` (12.10) and `debugger` (12.15) aren't supported, nor is a function declared here
+  abbrev pub begun : Place → Beginning → Reading Stmt
+  begun at Block = block_behind at
+  begun at Empty = finish_stmt at s.Empty
+  begun at Var = var_behind at
+  begun at If = if_behind at
+  begun at Do = do_behind at
+  begun at While = while_behind at
+  begun at For = for_behind at
+  begun at Continue = jump_behind s.Continue at
+  begun at Break = jump_behind s.Break at
+  begun at Return = return_behind at
+  begun at With = unsupported at feature.With
+  begun at Switch = switch_behind at
+  begun at Throw = throw_behind at
+  begun at Try = try_behind at
+  begun at Debugger = unsupported at feature.Debugger
+  begun at Function = unsupported at feature.FunctionInBlock
 
   unfoldable pub statement : Reading Stmt
   statement = do
     at ← here
-    next (by_first at) (λ read. read) expression_here
+    next beginning (λ first. begun at first) expression_here
 
   -- 14: a function declaration stands only here
   unfoldable pub element : Reading Stmt
