@@ -13,7 +13,9 @@ use Rattle.js_tree.specs.declared.refusal.Feature.{Feature}
 use Rattle.js_tree.specs.declared.refusal.Feature.TheVariants as feature
 use Rattle.js_tree.specs.declared.token.Keyword.{Keyword}
 use Rattle.js_tree.specs.declared.token.Keyword.TheVariants as word
-use Rattle.js_tree.specs.contracts.token.KeywordPartialEq.TheImpl.{ghosts}
+use Rattle.js_tree.specs.contracts.token.KeywordPartialEq.TheImpl.{ghosts as words}
+use Rattle.js_tree.specs.contracts.token.PunctuatorPartialEq.TheImpl.{ghosts as marks}
+use Rattle.js_tree.specs.declared.token.Punctuator.{Punctuator}
 use Rattle.js_tree.specs.declared.token.Punctuator.TheVariants as mark
 use Rattle.js_tree.specs.declared.token.TheConstants.{KEYWORDS}
 use Rattle.js_tree.specs.declared.token.TokenForm.{TokenForm}
@@ -22,93 +24,86 @@ use Rattle.js_tree.specs.declared.token.Token.{Token}
 
 -- ---- single tokens
 
+-- `==` of punctuators and of reserved words
+abbrev pub same_mark : Punctuator → Punctuator → Bool
+same_mark = marks.eq
+
+abbrev pub same_word : Keyword → Keyword → Bool
+same_word = words.eq
+
+abbrev pub punctuator : Punctuator → TokenForm → Option (Unit {0})
+punctuator mark (form.Punctuator found) = if same_mark found mark then Some tt else None
+punctuator mark _ = None
+
+abbrev pub reserved : Keyword → TokenForm → Option (Unit {0})
+reserved word (form.Reserved found) = if same_word found word then Some tt else None
+reserved word _ = None
+
 abbrev pub left_brace : TokenForm → Option (Unit {0})
-left_brace (form.Punctuator mark.LeftBrace) = Some tt
-left_brace _ = None
+left_brace = punctuator mark.LeftBrace
 
 abbrev pub right_brace : TokenForm → Option (Unit {0})
-right_brace (form.Punctuator mark.RightBrace) = Some tt
-right_brace _ = None
+right_brace = punctuator mark.RightBrace
 
 abbrev pub left_parenthesis : TokenForm → Option (Unit {0})
-left_parenthesis (form.Punctuator mark.LeftParenthesis) = Some tt
-left_parenthesis _ = None
+left_parenthesis = punctuator mark.LeftParenthesis
 
 abbrev pub right_parenthesis : TokenForm → Option (Unit {0})
-right_parenthesis (form.Punctuator mark.RightParenthesis) = Some tt
-right_parenthesis _ = None
+right_parenthesis = punctuator mark.RightParenthesis
 
 abbrev pub left_bracket : TokenForm → Option (Unit {0})
-left_bracket (form.Punctuator mark.LeftBracket) = Some tt
-left_bracket _ = None
+left_bracket = punctuator mark.LeftBracket
 
 abbrev pub right_bracket : TokenForm → Option (Unit {0})
-right_bracket (form.Punctuator mark.RightBracket) = Some tt
-right_bracket _ = None
+right_bracket = punctuator mark.RightBracket
 
 abbrev pub dot : TokenForm → Option (Unit {0})
-dot (form.Punctuator mark.Dot) = Some tt
-dot _ = None
+dot = punctuator mark.Dot
 
 abbrev pub semicolon : TokenForm → Option (Unit {0})
-semicolon (form.Punctuator mark.Semicolon) = Some tt
-semicolon _ = None
+semicolon = punctuator mark.Semicolon
 
 abbrev pub comma : TokenForm → Option (Unit {0})
-comma (form.Punctuator mark.Comma) = Some tt
-comma _ = None
+comma = punctuator mark.Comma
 
 abbrev pub question : TokenForm → Option (Unit {0})
-question (form.Punctuator mark.Question) = Some tt
-question _ = None
+question = punctuator mark.Question
 
 abbrev pub colon : TokenForm → Option (Unit {0})
-colon (form.Punctuator mark.Colon) = Some tt
-colon _ = None
+colon = punctuator mark.Colon
 
 abbrev pub equals : TokenForm → Option (Unit {0})
-equals (form.Punctuator mark.Assign) = Some tt
-equals _ = None
+equals = punctuator mark.Assign
 
 abbrev pub case_word : TokenForm → Option (Unit {0})
-case_word (form.Reserved word.Case) = Some tt
-case_word _ = None
+case_word = reserved word.Case
 
 abbrev pub catch_word : TokenForm → Option (Unit {0})
-catch_word (form.Reserved word.Catch) = Some tt
-catch_word _ = None
+catch_word = reserved word.Catch
 
 abbrev pub default_word : TokenForm → Option (Unit {0})
-default_word (form.Reserved word.Default) = Some tt
-default_word _ = None
+default_word = reserved word.Default
 
 abbrev pub else_word : TokenForm → Option (Unit {0})
-else_word (form.Reserved word.Else) = Some tt
-else_word _ = None
+else_word = reserved word.Else
 
 abbrev pub finally_word : TokenForm → Option (Unit {0})
-finally_word (form.Reserved word.Finally) = Some tt
-finally_word _ = None
+finally_word = reserved word.Finally
 
 abbrev pub function_word : TokenForm → Option (Unit {0})
-function_word (form.Reserved word.Function) = Some tt
-function_word _ = None
+function_word = reserved word.Function
 
 abbrev pub in_word : TokenForm → Option (Unit {0})
-in_word (form.Reserved word.In) = Some tt
-in_word _ = None
+in_word = reserved word.In
 
 abbrev pub new_word : TokenForm → Option (Unit {0})
-new_word (form.Reserved word.New) = Some tt
-new_word _ = None
+new_word = reserved word.New
 
 abbrev pub var_word : TokenForm → Option (Unit {0})
-var_word (form.Reserved word.Var) = Some tt
-var_word _ = None
+var_word = reserved word.Var
 
 abbrev pub while_word : TokenForm → Option (Unit {0})
-while_word (form.Reserved word.While) = Some tt
-while_word _ = None
+while_word = reserved word.While
 
 -- ---- names and literals
 
@@ -120,10 +115,6 @@ identifier _ = None
 abbrev pub string : TokenForm → Option (List ℕ)
 string (form.Str text) = Some text
 string _ = None
-
--- `==` of reserved words
-abbrev pub same_word : Keyword → Keyword → Bool
-same_word = ghosts.eq
 
 -- 7.6.1: a reserved word is spelled as in the table
 abbrev pub spelled : Keyword → List ℕ
