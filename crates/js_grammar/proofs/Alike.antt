@@ -14,8 +14,8 @@ use Rattle.js_tree.specs.declared.statement.StmtForm.{StmtForm}
 use Rattle.js_tree.specs.declared.token.TokenForm.{TokenForm}
 use Rattle.js_tree.specs.declared.token.Token.{Token}
 use Rattle.js_grammar.specs.Rest.{Rest, Reading, give, behind, ◌>>=◌, refuse, unless}
-use Rattle.js_grammar.specs.Rest.{unexpected, of_first, passed, go_on, next, expect, repeat, again, left_open, entered, part, is_empty, place_of}
-use Rattle.js_grammar.specs.Rest.{not_read_yet, kept, numbered, finish, finish_stmt}
+use Rattle.js_grammar.specs.Rest.{unexpected, of_first, passed, go_on, next, expect, repeat, again, enter, leave, part, is_empty, place_of}
+use Rattle.js_grammar.specs.Rest.{not_read_yet, set_at, begin, keep, numbered, finish, finish_stmt}
 
 -- what the right reading allows where the left one tests
 abbrev pub Tests : (ReadRefused → Type 0) → Place → Bool → Bool → Type 0
@@ -111,6 +111,15 @@ module _ (w : Setting) where
       → Alike true i (m >>= f) (n >>= g)
   bind_behind h next = record { at = λ k s le is. bound true false _ k _ _ _ _ le next (h.at k s le is) }
 
+  past_least : (some : Bool) (i : ℕ) → i ≤ past some i
+  past_least false i = omega arith
+  past_least true i = omega arith
+
+  -- where what takes a token or none comes first
+  pub bind_first : {A B : Type 0} {some : Bool} {i : ℕ} {m n : Reading A} {f g : A → Reading B} → Alike some i m n → ((a : A) → Alike false i (f a) (g a))
+      → Alike some i (m >>= f) (n >>= g)
+  bind_first {some = some} {i = i} h next = record { at = λ k s le is. bound some false _ k _ _ _ _ le (λ a. later (past_least some i) (next a)) (h.at k s le is) }
+
   pub stays : {A : Type 0} (k : ℕ) (a : A) (s : Rest) → At k s → Went k a s (Ok (a, relaxed s))
   stays k a s is = record { place = k; from = omega arith; here = is; same = refl }
 
@@ -179,40 +188,47 @@ module _ (w : Setting) where
       → Corresponds k (cond b r (Err (Nested at))) (cond c q (Err (Nested at)))
   tested_by k at b d c r q e allowed h = tested k at b c r q (subst (λ x. Tests w.excused at x c) (sym e) allowed) h
 
-  put_back : {A : Type 0} (k n : ℕ) (r q : Result (A × Rest) ReadRefused) → Corresponds k r q → Corresponds k (left_open n r) (left_open n q)
-  put_back k n (Ok x) q h =
-      rw h.same (record { place = h.place; from = h.from; here = record { left = h.here.left; within = h.here.within; limit = h.here.limit; exprs = h.here.exprs; stmts = h.here.stmts }; same = refl })
-  put_back k n (Err e) q (too same) = rw same (too refl)
-  put_back k n (Err e) q (only x) = only x
-
-  enters : {A : Type 0} {some : Bool} {i : ℕ} {m n : Reading A} → Alike some i m n → Alike some i (entered m) (entered n)
-  enters h = record {
-    at = λ k s le is.
-        tested_by _ (place_of s.tokens s.end) (nat_lt s.opened s.limit) (nat_lt s.opened w.limit) (nat_lt s.opened w.greater) _ _ (ap (nat_lt s.opened) is.limit) (w.opens (place_of s.tokens s.end) s.opened)
-        (put_back _ s.opened _ _ (h.at k (record s { opened = s.opened + 1 }) le (record { left = is.left; within = is.within; limit = is.limit; exprs = is.exprs; stmts = is.stmts })));
-  }
+  -- what is open and which functions were begun may change
+  pub changes : {A : Type 0} {i : ℕ} (f : Rest → A) (g : Rest → Rest) → ((s : Rest) → f (relaxed s) ≡ f s) → ((s : Rest) → g (relaxed s) ≡ relaxed (g s))
+      → ((k : ℕ) (s : Rest) → At k s → At k (g s)) → Alike false i (λ s. Ok (f s, g s)) (λ s. Ok (f s, g s))
+  changes f g same_f same_g still = record { at = λ k s le is. rw (same_f s, same_g s) (record { place = k; from = omega arith; here = still k s is; same = refl }) }
 
   unless_ended : {A : Type 0} (k : ℕ) (at : Place) (b : Bool) (r q : Result (A × Rest) ReadRefused) → Corresponds k r q → Corresponds k (cond b (Err (Syntax at)) r) (cond b (Err (Syntax at)) q)
   unless_ended k at true r q h = too refl
   unless_ended k at false r q h = h
 
+  more_open : (k n : ℕ) (s : Rest) → At k s → At k (record s { opened = n })
+  more_open k n s is = record { left = is.left; within = is.within; limit = is.limit; exprs = is.exprs; stmts = is.stmts }
+
+  enters : {i : ℕ} → Alike false i enter enter
+  unfolding enter
+  enters = record {
+    at = λ k s le is. unless_ended _ s.end (is_empty s.tokens) _ _
+        (tested_by k (place_of s.tokens s.end) (nat_lt s.opened s.limit) (nat_lt s.opened w.limit) (nat_lt s.opened w.greater) _ _ (ap (nat_lt s.opened) is.limit) (w.opens (place_of s.tokens s.end) s.opened)
+        (record { place = k; from = omega arith; here = more_open k (s.opened + 1) s is; same = refl }));
+  }
+
+  leaves : {i : ℕ} (n : ℕ) → Alike false i (leave n) (leave n)
+  unfolding leave
+  leaves n = changes (λ s. tt) (λ s. record s { opened = n }) (λ s. refl) (λ s. refl) (λ k s is. more_open k n s is)
+
   pub opens : {A : Type 0} {some : Bool} {i : ℕ} {m n : Reading A} → Alike some i m n → Alike some i (part m) (part n)
   unfolding part
-  opens h = record { at = λ k s le is. unless_ended _ s.end (is_empty s.tokens) _ _ ((enters h).at k s le is) }
+  opens h = bind enters (λ opened. bind_first h (λ x. bind (leaves opened) (λ _. gives x)))
 
-  keeps : (k n : ℕ) (r q : Result (Func × Rest) ReadRefused) → Corresponds k r q → Corresponds k (kept n r) (kept n q)
-  keeps k n (Ok x) q h =
-      rw h.same (record { place = h.place; from = h.from; here = record { left = h.here.left; within = h.here.within; limit = h.here.limit; exprs = h.here.exprs; stmts = h.here.stmts }; same = refl })
-  keeps k n (Err e) q (too same) = rw same (too refl)
-  keeps k n (Err e) q (only x) = only x
+  begins : {i : ℕ} (at : Place) → Alike false i (begin at) (begin at)
+  unfolding begin
+  begins at = changes (λ s. length s.functions) (λ s. record s { functions = s.functions ++ (not_read_yet at ∷ []) }) (λ s. refl) (λ s. refl)
+      (λ k s is. record { left = is.left; within = is.within; limit = is.limit; exprs = is.exprs; stmts = is.stmts })
+
+  keeps : {i : ℕ} (n : ℕ) (f : Func) → Alike false i (keep n f) (keep n f)
+  unfolding keep
+  keeps n f = changes (λ s. record { 0 = n }) (λ s. record s { functions = set_at n f s.functions }) (λ s. refl) (λ s. refl)
+      (λ k s is. record { left = is.left; within = is.within; limit = is.limit; exprs = is.exprs; stmts = is.stmts })
 
   pub numbers : {some : Bool} {i : ℕ} (at : Place) {m n : Reading Func} → Alike some i m n → Alike some i (numbered at m) (numbered at n)
   unfolding numbered
-  numbers at h = record {
-    at = λ k s le is.
-        keeps _ (length s.functions) _ _ (h.at k (record s { functions = s.functions ++ (not_read_yet at ∷ []) }) le
-        (record { left = is.left; within = is.within; limit = is.limit; exprs = is.exprs; stmts = is.stmts }));
-  }
+  numbers at h = bind (begins at) (λ n. bind_first h (λ f. keeps n f))
 
   pub finishes : {i : ℕ} (at : Place) (form : ExprForm) → Alike false i (finish at form) (finish at form)
   unfolding finish

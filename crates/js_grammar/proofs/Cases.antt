@@ -3,7 +3,7 @@ use Rattle.std.proofs.Common.{ℕ, List, ◌≡◌, refl, map, Ok}
 use Rattle.js_tree.specs.declared.expression.ExprForm.{out-ExprForm}
 use Rattle.js_tree.specs.declared.statement.StmtForm.{out-StmtForm}
 use Rattle.js_tree.specs.Lexing.{reserved_word}
-use Rattle.js_grammar.specs.Rest.{next, repeat, part, numbered, finish, finish_stmt}
+use Rattle.js_grammar.specs.Rest.{next, repeat, enter, leave, part, begin, keep, numbered, finish, finish_stmt}
 use Rattle.js_grammar.specs.Functions.{declared_name, parameters, elements, function_body, function_behind, accessor, function_expression}
 use Rattle.js_grammar.specs.Functions.{function_declaration}
 use Rattle.js_grammar.specs.Primary.{abstract_behind, expression_by, residual_behind, array_behind, property, object_behind, group_behind}
@@ -28,7 +28,7 @@ use Rattle.js_grammar.specs.RefusalCases.{sloppy_texts, open_parts_texts}
 
 -- each production is opened where this is
 unfoldable pub all_opened : ℕ → List ℕ → Answer
-unfolding read_text tokens_of reserved_word out-ExprForm out-StmtForm denote.Hole.Carrier.out next repeat part numbered finish
+unfolding read_text tokens_of reserved_word out-ExprForm out-StmtForm denote.Hole.Carrier.out next repeat enter leave part begin keep numbered finish
     finish_stmt declared_name parameters elements function_body function_behind accessor function_expression
     function_declaration abstract_behind expression_by residual_behind array_behind property object_behind group_behind
     arguments_behind new_behind member left_hand_side postfix unary multiplicative additive shift relational equality

@@ -133,18 +133,25 @@ repeat rule a = λ s. again rule 0 s.tokens a s
 
 -- ---- open parts
 
-abbrev pub left_open : {A : Type 0} → ℕ → Result (A × Rest) ReadRefused → Result (A × Rest) ReadRefused
-left_open n (Ok x) = Ok (x.0, record x.1 { opened = n })
-left_open n (Err e) = Err e
-
-abbrev pub entered : {A : Type 0} → Reading A → Reading A
-entered read = λ s.
-    if nat_lt s.opened s.limit then left_open s.opened (read (record s { opened = s.opened + 1 }))
+abbrev pub entered : Rest → Result (ℕ × Rest) ReadRefused
+entered s =
+    if nat_lt s.opened s.limit then Ok (s.opened, record s { opened = s.opened + 1 })
     else Err (Nested (place_of s.tokens s.end))
 
--- A part that is counted as open while it is read: one more mustn't be open than the limit. A part has a first token.
+-- One part more is open, and one more mustn't be than the limit. A part has a first token. Answers how many were open.
+unfoldable pub enter : Reading ℕ
+enter = λ s. if is_empty s.tokens then Err (Syntax s.end) else entered s
+
+unfoldable pub leave : ℕ → Reading (Unit {0})
+leave opened = λ s. Ok (tt, record s { opened = opened })
+
+-- a part that is counted as open while it is read
 unfoldable pub part : {A : Type 0} → Reading A → Reading A
-part read = λ s. if is_empty s.tokens then Err (Syntax s.end) else entered read s
+part read = do
+  opened ← enter
+  x ← read
+  leave opened
+  give x
 
 -- ---- functions
 
@@ -154,13 +161,18 @@ set_at n a all = take n all ++ (a ∷ drop (n + 1) all)
 abbrev pub not_read_yet : Place → Func
 not_read_yet at = record { at = at; name = None; params = []; directive = false; body = [] }
 
-abbrev pub kept : ℕ → Result (Func × Rest) ReadRefused → Result (FuncNo × Rest) ReadRefused
-kept n (Ok x) = Ok (record { 0 = n }, record x.1 { functions = set_at n x.0 x.1.functions })
-kept n (Err e) = Err e
-
 -- a function takes the next number as it begins, before the functions inside it
+unfoldable pub begin : Place → Reading ℕ
+begin at = λ s. Ok (length s.functions, record s { functions = s.functions ++ (not_read_yet at ∷ []) })
+
+unfoldable pub keep : ℕ → Func → Reading FuncNo
+keep n f = λ s. Ok (record { 0 = n }, record s { functions = set_at n f s.functions })
+
 unfoldable pub numbered : Place → Reading Func → Reading FuncNo
-numbered at read = λ s. kept (length s.functions) (read (record s { functions = s.functions ++ (not_read_yet at ∷ []) }))
+numbered at read = do
+  n ← begin at
+  f ← read
+  keep n f
 
 -- ---- finished parts: one that isn't allowed is nested too deep
 
