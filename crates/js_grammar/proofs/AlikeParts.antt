@@ -59,7 +59,7 @@ module _ (w : Setting) where
   unfolding declared_name
   declared_name_too = search (places, steps)
 
-  more_parameters_too : {i : ℕ} → RuleAlike w i more_parameters more_parameters
+  pub more_parameters_too : {i : ℕ} → RuleAlike w i more_parameters more_parameters
   more_parameters_too = record { at = λ k le m n again so_far. search (declared_name_too, one_later, again, steps) }
 
   pub parameters_too : {i : ℕ} → Alike w false i parameters parameters
@@ -95,7 +95,7 @@ module _ (w : Setting) where
     element_behind_too leads a =
         bind w places (λ at. bind w (sees_too Marks.string) (λ is_string. bind w strict_too (λ is_strict. bind_behind w (opens w a.element) (λ s. chooses w (is_strict && F.is_directive leads is_string s) (refuses w (Unsupported at feature.StrictCode)) (gives w (s, F.is_directive leads is_string s))))))
 
-    more_elements_too : {i : ℕ} {closed : Reading Bool} → Alike w false i closed closed → Alikes i g h → RuleAlike w i (F.more_elements g closed) (F.more_elements h closed)
+    pub more_elements_too : {i : ℕ} {closed : Reading Bool} → Alike w false i closed closed → Alikes i g h → RuleAlike w i (F.more_elements g closed) (F.more_elements h closed)
     more_elements_too c a = record {
       at = λ k le m n again so_far.
           let e : Alike w true k (F.element_behind g so_far.1) (F.element_behind h so_far.1) = element_behind_too so_far.1 (further le a) in
@@ -132,7 +132,7 @@ module _ (w : Setting) where
 
     -- ---- 11.14
 
-    more_commas_too : {i : ℕ} (allows_in : Bool) → Alikes (suc i) g h → RuleAlike w i (P.more_commas g allows_in) (P.more_commas h allows_in)
+    pub more_commas_too : {i : ℕ} (allows_in : Bool) → Alikes (suc i) g h → RuleAlike w i (P.more_commas g allows_in) (P.more_commas h allows_in)
     more_commas_too allows_in a = record {
       at = λ k le m n again left. takes w Marks.comma (λ _. bind w (taking w ((further (omega (arith, le)) a).assignment allows_in)) (λ right.
           bind w (search steps) (λ both. again both))) (gives w left);
@@ -145,7 +145,7 @@ module _ (w : Setting) where
     pub expression_too : {i : ℕ} → Alikes i g h → Alike w true i (P.expression g) (P.expression h)
     expression_too a = expression_by_too true (a.assignment true) (one_further a)
 
-    more_host_arguments_too : {i : ℕ} (at : Place) → Alikes i g h → RuleAlike w i (P.more_host_arguments g at) (P.more_host_arguments h at)
+    pub more_host_arguments_too : {i : ℕ} (at : Place) → Alikes i g h → RuleAlike w i (P.more_host_arguments g at) (P.more_host_arguments h at)
     more_host_arguments_too at a = record {
       at = λ k le m n again so_far. bind w (shape_too at feature.ResidualForm P.comma_or_end) (λ follows.
           chooses w follows (taking w (bind_behind w ((further le a).assignment true) (λ x. again _))) (gives w so_far));
@@ -162,7 +162,7 @@ module _ (w : Setting) where
     named_too : {i : ℕ} (at : Place) (text : List ℕ) → Alikes i g h → Alike w false i (P.named_behind g at text) (P.named_behind h at text)
     named_too at text a = chooses w (Marks.is_abstract text) (abstract_too at) (chooses w (Marks.is_residual text) (residual_too at a) (name_too at text))
 
-    more_items_too : {i : ℕ} → Alikes i g h → RuleAlike w i (P.more_elements g) (P.more_elements h)
+    pub more_items_too : {i : ℕ} → Alikes i g h → RuleAlike w i (P.more_elements g) (P.more_elements h)
     more_items_too a = record {
       at = λ k le m n again so_far. takes w Marks.right_bracket (λ _. gives w so_far) (takes w Marks.comma (λ _. again _)
           (taking w (bind_behind w ((further le a).assignment true) (λ x. takes w Marks.comma (λ _. one_later w (again _)) (bind w (taking w (expects w Marks.right_bracket)) (λ _. search steps))))));
@@ -188,7 +188,7 @@ module _ (w : Setting) where
     property_too a = bind w (sees_too (Marks.accessor_word Marks.get_word)) (λ gets. bind w (sees_too (Marks.accessor_word Marks.set_word)) (λ sets. bind w (second_too Marks.property_name) (λ named.
         chooses w (gets && named) (getter_too a) (chooses w (sets && named) (setter_too a) (valued_too a)))))
 
-    more_fields_too : {i : ℕ} → Alikes (suc i) g h → RuleAlike w i (P.more_fields g) (P.more_fields h)
+    pub more_fields_too : {i : ℕ} → Alikes (suc i) g h → RuleAlike w i (P.more_fields g) (P.more_fields h)
     more_fields_too a = record {
       at = λ k le m n again so_far. takes w Marks.right_brace (λ _. gives w so_far) (taking w (bind_behind w (property_too (further (omega (arith, le)) a)) (λ x.
           takes w Marks.comma (λ _. one_later w (again _)) (bind w (taking w (expects w Marks.right_brace)) (λ _. search steps)))));
@@ -213,7 +213,7 @@ module _ (w : Setting) where
 
     -- ---- members, `new`, calls
 
-    more_arguments_too : {i : ℕ} → Alikes i g h → RuleAlike w i (P.more_arguments g) (P.more_arguments h)
+    pub more_arguments_too : {i : ℕ} → Alikes i g h → RuleAlike w i (P.more_arguments g) (P.more_arguments h)
     more_arguments_too a = record {
       at = λ k le m n again so_far. taking w (bind_behind w ((further le a).assignment true) (λ x.
           takes w Marks.comma (λ _. one_later w (again _)) (bind w (taking w (expects w Marks.right_parenthesis)) (λ _. search steps))));
@@ -236,7 +236,7 @@ module _ (w : Setting) where
     call_too : {i : ℕ} (callee : Expr) → Alikes i g h → Alike w false i (P.call_behind g callee) (P.call_behind h callee)
     call_too callee a = bind w (arguments_too a) (λ args. search steps)
 
-    more_members_too : {i : ℕ} (calls : Bool) → Alikes (suc i) g h → RuleAlike w i (P.more_members g calls) (P.more_members h calls)
+    pub more_members_too : {i : ℕ} (calls : Bool) → Alikes (suc i) g h → RuleAlike w i (P.more_members g calls) (P.more_members h calls)
     more_members_too calls a = record {
       at = λ k le m n again left.
           let b = further (omega (arith, le)) a in

@@ -56,7 +56,7 @@ module _ (w : Setting) where
     initialiser_too : {i : ℕ} (allows_in : Bool) (name : Name) → Alikes w i g h → Alike w false i (D.initialiser g allows_in name) (D.initialiser h allows_in name)
     initialiser_too allows_in name a = takes w Marks.equals (λ _. bind w (places w) (λ at. bind w (taking w ((one_further w a).assignment allows_in)) (λ x. gives w (record { at = name.at; name = name.text; init = Some x }, at)))) (gives w (record { at = name.at; name = name.text; init = None }, name.at))
 
-    more_declarators_too : {i : ℕ} (allows_in : Bool) → Alikes w i g h → RuleAlike w i (D.more_declarators g allows_in) (D.more_declarators h allows_in)
+    pub more_declarators_too : {i : ℕ} (allows_in : Bool) → Alikes w i g h → RuleAlike w i (D.more_declarators g allows_in) (D.more_declarators h allows_in)
     more_declarators_too allows_in a = record {
       at = λ k le m n again so_far. takes w Marks.comma (λ _. bind w (taking w (declared_name_too w)) (λ name.
           bind w (initialiser_too allows_in name (further w (omega (arith, le)) a)) (λ d. again _))) (gives w so_far);
@@ -66,7 +66,7 @@ module _ (w : Setting) where
     unfolding D.declarators_behind
     declarators_too allows_in first a = repeats w (more_declarators_too allows_in a) (first ∷ [])
 
-    more_statements_too : {i : ℕ} {closed : Reading Bool} → Alike w false i closed closed → Alikes w i g h → RuleAlike w i (B.more_statements g closed) (B.more_statements h closed)
+    pub more_statements_too : {i : ℕ} {closed : Reading Bool} → Alike w false i closed closed → Alikes w i g h → RuleAlike w i (B.more_statements g closed) (B.more_statements h closed)
     more_statements_too c a = record {
       at = λ k le m n again so_far. bind w (later w le c) (λ done. chooses w done (gives w so_far)
           (taking w (bind_behind w (opens w (further w le a).statement) (λ x. again _))));
@@ -165,7 +165,7 @@ module _ (w : Setting) where
     tested_case_too : {i : ℕ} → Alikes w i g h → Alike w false i (S.tested_case g) (S.tested_case h)
     tested_case_too a = bind w (taking w (expression_too w a)) (λ test. case_too (Some test) a)
 
-    more_cases_too : {i : ℕ} → Alikes w i g h → RuleAlike w i (S.more_cases g) (S.more_cases h)
+    pub more_cases_too : {i : ℕ} → Alikes w i g h → RuleAlike w i (S.more_cases g) (S.more_cases h)
     more_cases_too a = record {
       at = λ k le m n again so_far.
           let b = further w (omega (arith, le)) a in

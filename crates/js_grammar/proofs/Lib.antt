@@ -6,3 +6,4 @@ pub mod AlikeParts
 pub mod AlikeExpressions
 pub mod AlikeStatements
 pub mod Tied
+pub mod Unrolled

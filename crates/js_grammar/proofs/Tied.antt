@@ -155,7 +155,7 @@ module _ (zs : List Token) (limit : ℕ) (p : List Func → Expr → Bool) (q : 
   unchanged : (s : Rest) → s.limit ≡ limit → s.allows_expr ≡ p → s.allows_stmt ≡ q → record s { limit = limit; allows_expr = p; allows_stmt = q } ≡ s
   unchanged s l x t = rw (sym l, sym x, sym t) refl
 
-  same_answer : {A : Type 0} (k : ℕ) (r a : Result (A × Rest) ReadRefused) → Corresponds (exact zs limit p q) k r a → a ≡ r
+  pub same_answer : {A : Type 0} (k : ℕ) (r a : Result (A × Rest) ReadRefused) → Corresponds (exact zs limit p q) k r a → a ≡ r
   same_answer k (Ok x) a h = h.same ∙ ap (λ t. Ok (x.0, t)) (unchanged x.1 h.here.limit h.here.exprs h.here.stmts)
   same_answer k (Err e) a (too same) = same
   same_answer k (Err e) a (only x) = absurd (cc)

@@ -19,3 +19,4 @@ pub mod RefusalCases
 pub mod TreeCases
 pub mod HeightCases
 pub mod OperatorCases
+pub mod Laws

@@ -1,7 +1,5 @@
 -- Tokens by what they are in a production (7.6, 7.7, 7.8).
-use Rattle.std.specs.Prelude.{ℕ, ◌-◌, ◌==◌, ◌&&◌, Bool, true, false, if◌then◌else◌, codes, List, [], Option, Some, None}
-use Rattle.std.specs.List.{find}
-use Rattle.std.specs.Option.{option_map_or}
+use Rattle.std.specs.Prelude.{ℕ, ◌-◌, ◌==◌, ◌&&◌, Bool, true, false, if◌then◌else◌, codes, List, [], ◌∷◌, map, Option, Some, None}
 use Rattle.std.specs.Str.{bytes_eq}
 use Rattle.std.specs.Fmt.{signed_decimal}
 use Rattle.js_value.specs.declared.primitive.Kind.{Kind}
@@ -116,9 +114,14 @@ abbrev pub string : TokenForm → Option (List ℕ)
 string (form.Str text) = Some text
 string _ = None
 
--- 7.6.1: a reserved word is spelled as in the table
+-- the spelling of a word in a table
+abbrev pub spelling : Keyword → List (List ℕ × Keyword) → List ℕ
+spelling word [] = []
+spelling word (row ∷ rows) = if same_word row.1 word then row.0 else spelling word rows
+
+-- 7.6.1
 abbrev pub spelled : Keyword → List ℕ
-spelled keyword = option_map_or (λ row. row.0.now) (find (λ row. same_word keyword row.1) KEYWORDS) []
+spelled word = spelling word (map (λ row. (row.0.now, row.1)) KEYWORDS)
 
 -- 7.6: a name or a reserved word
 abbrev pub identifier_name : TokenForm → Option (List ℕ)
