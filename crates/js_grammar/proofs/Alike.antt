@@ -1,7 +1,7 @@
 -- Readings that do alike: on what stands behind some of the tokens of a text, and where the right one may allow more.
 use Rattle.std.proofs.Common.{◌≡◌, ℕ, zero, suc, ◌+◌, ◌-◌, ◌<◌, ◌≤◌, Bool, true, false, cond, List, [], ◌∷◌, ◌++◌, length, drop, refl, ap, sym, ◌∙◌, subst, arith}
 use Rattle.std.proofs.lemmas.List.{length-drop, drop-drop}
-use Rattle.std.specs.Prelude.{nat_lt, Option, Some, None, Result, Ok, Err}
+use Rattle.std.specs.Prelude.{slice_set, nat_lt, Option, Some, None, Result, Ok, Err}
 use Rattle.js_value.specs.declared.place.Place.{Place}
 use Rattle.js_tree.specs.declared.expression.Expr.{Expr}
 use Rattle.js_tree.specs.declared.expression.ExprForm.{ExprForm}
@@ -15,7 +15,7 @@ use Rattle.js_tree.specs.declared.token.TokenForm.{TokenForm}
 use Rattle.js_tree.specs.declared.token.Token.{Token}
 use Rattle.js_grammar.specs.Rest.{Rest, Reading, give, behind, ◌>>=◌, refuse, unless}
 use Rattle.js_grammar.specs.Rest.{unexpected, of_first, passed, go_on, next, expect, repeat, again, enter, leave, part, is_empty, place_of}
-use Rattle.js_grammar.specs.Rest.{not_read_yet, set_at, begin, keep, numbered, finish, finish_stmt}
+use Rattle.js_grammar.specs.Rest.{not_read_yet, begin, keep, numbered, finish, finish_stmt}
 
 -- what the right reading allows where the left one tests
 abbrev pub Tests : (ReadRefused → Type 0) → Place → Bool → Bool → Type 0
@@ -223,7 +223,7 @@ module _ (w : Setting) where
 
   keeps : {i : ℕ} (n : ℕ) (f : Func) → Alike false i (keep n f) (keep n f)
   unfolding keep
-  keeps n f = changes (λ s. record { 0 = n }) (λ s. record s { functions = set_at n f s.functions }) (λ s. refl) (λ s. refl)
+  keeps n f = changes (λ s. record { 0 = n }) (λ s. record s { functions = slice_set s.functions n f }) (λ s. refl) (λ s. refl)
       (λ k s is. record { left = is.left; within = is.within; limit = is.limit; exprs = is.exprs; stmts = is.stmts })
 
   pub numbers : {some : Bool} {i : ℕ} (at : Place) {m n : Reading Func} → Alike some i m n → Alike some i (numbered at m) (numbered at n)

@@ -90,6 +90,10 @@ module _ (w : Setting) where
   dotted_too : {i : ℕ} (g : Grammar) (object : Expr) → Alike w false i (P.dotted_behind g object) (P.dotted_behind g object)
   dotted_too g object = bind w (taking w (expects w Marks.identifier_name)) (λ key. search steps)
 
+  new_or_none_too : {i : ℕ} (at : Place) {new new' : Reading Expr} → Alike w false (suc i) new new' → Alike w true i (P.new_or_none at new) (P.new_or_none at new')
+  unfolding P.new_or_none
+  new_or_none_too at n = takes w Marks.new_word (λ _. n) (takes w Operators.regular_expression (λ _. refuses w (Unsupported at feature.RegularExpression)) (misses w))
+
   module _ {g h : Grammar} where
     element_behind_too : {i : ℕ} (leads : Bool) → Alikes i g h → Alike w true i (F.element_behind g leads) (F.element_behind h leads)
     element_behind_too leads a =
@@ -205,11 +209,14 @@ module _ (w : Setting) where
     function_here_too : {i : ℕ} (at : Place) → Alikes (suc i) g h → Alike w true i (P.function_here g at) (P.function_here h at)
     function_here_too at a = bind_behind w (function_expression_too at a) (λ f. search steps)
 
+    enclosed_too : {i : ℕ} (at : Place) {new new' : Reading Expr} → Alike w false (suc i) new new' → Alikes (suc i) g h → Alike w true i (P.enclosed_or_new g at new) (P.enclosed_or_new h at new')
+    unfolding P.enclosed_or_new
+    enclosed_too at n a = takes w Marks.left_bracket (λ _. array_too at a) (takes w Marks.left_brace (λ _. object_too at (one_further a)) (
+        takes w Marks.left_parenthesis (λ _. taking w (group_too a)) (new_or_none_too at n)))
+
     primary_too : {i : ℕ} {new new' : Reading Expr} → Alike w false (suc i) new new' → Alikes (suc i) g h → Alike w true i (P.primary_or_new g new) (P.primary_or_new h new')
     primary_too n a = bind w places (λ at. bind w (sees_too Marks.function_word) (λ function. chooses w function (function_here_too at a) (
-        takes w Marks.literal (λ f. finishes w at f) (takes w Marks.identifier (λ text. named_too at text a) (takes w Marks.left_bracket (λ _. array_too at a) (
-        takes w Marks.left_brace (λ _. object_too at (one_further a)) (takes w Marks.left_parenthesis (λ _. taking w (group_too a)) (takes w Marks.new_word (λ _. n) (
-        takes w Operators.regular_expression (λ _. refuses w (Unsupported at feature.RegularExpression)) (misses w))))))))))
+        takes w Marks.literal (λ f. finishes w at f) (takes w Marks.identifier (λ text. named_too at text a) (enclosed_too at n a)))))
 
     -- ---- members, `new`, calls
 

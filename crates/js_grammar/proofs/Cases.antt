@@ -7,7 +7,7 @@ use Rattle.js_grammar.specs.Rest.{next, repeat, enter, leave, part, begin, keep,
 use Rattle.js_grammar.specs.Functions.{declared_name, parameters, elements, function_body, function_behind, accessor, function_expression}
 use Rattle.js_grammar.specs.Functions.{function_declaration}
 use Rattle.js_grammar.specs.Primary.{abstract_behind, expression_by, residual_behind, array_behind, property, object_behind, group_behind}
-use Rattle.js_grammar.specs.Primary.{arguments_behind, new_behind, member, left_hand_side}
+use Rattle.js_grammar.specs.Primary.{arguments_behind, new_or_none, enclosed_or_new, new_behind, member, left_hand_side}
 use Rattle.js_grammar.specs.Expressions.{postfix, unary, multiplicative, additive, shift, relational, equality, bit_and, bit_xor, bit_or}
 use Rattle.js_grammar.specs.Expressions.{logical_and, logical_or, conditional, assignment}
 use Rattle.js_grammar.specs.Ends.{ends}
@@ -31,7 +31,7 @@ unfoldable pub all_opened : ℕ → List ℕ → Answer
 unfolding read_text tokens_of reserved_word out-ExprForm out-StmtForm denote.Hole.Carrier.out next repeat enter leave part begin keep numbered finish
     finish_stmt declared_name parameters elements function_body function_behind accessor function_expression
     function_declaration abstract_behind expression_by residual_behind array_behind property object_behind group_behind
-    arguments_behind new_behind member left_hand_side postfix unary multiplicative additive shift relational equality
+    arguments_behind new_or_none enclosed_or_new new_behind member left_hand_side postfix unary multiplicative additive shift relational equality
     bit_and bit_xor bit_or logical_and logical_or conditional assignment ends declarators_behind statements
     statements_behind_brace var_behind expression_here if_behind do_behind while_behind for_parts for_in for_var
     for_expression for_behind return_behind switch_behind throw_behind try_behind statement element productions grammar

@@ -41,6 +41,12 @@ comma_or_end t = elim (Marks.comma t) [ Some _ ↦ Some true | None ↦ elim (Ma
 abbrev pub name_behind : Place → List ℕ → Reading Expr
 name_behind at text = unless at (Marks.barred text) (finish at (e.Name text))
 
+-- 11.2.2, or no operand
+unfoldable pub new_or_none : Place → Reading Expr → Reading Expr
+new_or_none at new =
+    next Marks.new_word (λ _. new) (
+    next Operators.regular_expression (λ _. unsupported at feature.RegularExpression) unexpected)
+
 module _ (g : Grammar) where
   -- 11.14: any expression, behind the first token of something around it
   abbrev pub more_commas : Bool → (Expr → Reading Expr) → Expr → Reading Expr
@@ -158,18 +164,20 @@ module _ (g : Grammar) where
     f ← function_expression g at
     finish at (e.Func f)
 
+  -- 11.1.4 to 11.1.6, or `new`
+  unfoldable pub enclosed_or_new : Place → Reading Expr → Reading Expr
+  enclosed_or_new at new =
+      next Marks.left_bracket (λ _. array_behind at) (
+      next Marks.left_brace (λ _. object_behind at) (
+      next Marks.left_parenthesis (λ _. group_behind) (new_or_none at new)))
+
   abbrev pub primary_or_new : Reading Expr → Reading Expr
   primary_or_new new = do
     at ← here
     function ← sees Marks.function_word
     if function then function_here at else (
         next Marks.literal (λ f. finish at f) (
-        next Marks.identifier (λ text. named_behind at text) (
-        next Marks.left_bracket (λ _. array_behind at) (
-        next Marks.left_brace (λ _. object_behind at) (
-        next Marks.left_parenthesis (λ _. group_behind) (
-        next Marks.new_word (λ _. new) (
-        next Operators.regular_expression (λ _. unsupported at feature.RegularExpression) unexpected)))))))
+        next Marks.identifier (λ text. named_behind at text) (enclosed_or_new at new)))
 
   -- ---- members, `new`, calls (11.2)
 

@@ -1,6 +1,6 @@
 -- What is left of a text's tokens while it is read, and the steps that productions are made of.
-use Rattle.std.specs.Prelude.{ℕ, zero, suc, ◌-◌, ◌+◌, Bool, true, false, if◌then◌else◌, nat_lt, List, [], ◌∷◌, ◌++◌, length, take, drop}
-use Rattle.std.specs.Prelude.{slice_get, Option, Some, None, is_some, Result, Ok, Err}
+use Rattle.std.specs.Prelude.{ℕ, zero, suc, ◌-◌, ◌+◌, Bool, true, false, if◌then◌else◌, nat_lt, List, [], ◌∷◌, ◌++◌, length, drop}
+use Rattle.std.specs.Prelude.{slice_get, slice_set, Option, Some, None, is_some, Result, Ok, Err}
 use Rattle.js_value.specs.declared.place.Place.{Place}
 use Rattle.js_value.specs.declared.place.FuncNo.{FuncNo}
 use Rattle.js_tree.specs.declared.expression.Expr.{Expr}
@@ -155,9 +155,6 @@ part read = do
 
 -- ---- functions
 
-abbrev pub set_at : {A : Type 0} → ℕ → A → List A → List A
-set_at n a all = take n all ++ (a ∷ drop (n + 1) all)
-
 abbrev pub not_read_yet : Place → Func
 not_read_yet at = record { at = at; name = None; params = []; directive = false; body = [] }
 
@@ -166,7 +163,7 @@ unfoldable pub begin : Place → Reading ℕ
 begin at = λ s. Ok (length s.functions, record s { functions = s.functions ++ (not_read_yet at ∷ []) })
 
 unfoldable pub keep : ℕ → Func → Reading FuncNo
-keep n f = λ s. Ok (record { 0 = n }, record s { functions = set_at n f s.functions })
+keep n f = λ s. Ok (record { 0 = n }, record s { functions = slice_set s.functions n f })
 
 unfoldable pub numbered : Place → Reading Func → Reading FuncNo
 numbered at read = do

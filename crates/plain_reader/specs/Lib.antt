@@ -1,0 +1,4 @@
+pub mod Reader
+pub mod Within
+pub mod Levels
+pub mod Headers
