@@ -99,7 +99,7 @@ static READ: [Case; 21] = [
 ];
 
 /// How many parts may be open at once.
-static OPEN_PARTS: [Case; 15] = [
+static OPEN_PARTS: [Case; 16] = [
     (b"do ; while ( ( a ) )", 2, "nested at 15"),
     (b"do ; while ( ( a ) )", 3, ""),
     (b"if ( a ) ; else { ; }", 2, "nested at 18"),
@@ -113,12 +113,13 @@ static OPEN_PARTS: [Case; 15] = [
     (b"{ ; }", 2, ""),
     (b"{ ; }", 1, "nested at 2"),
     (b"( )", 1, "nested at 2"),
-    (b"f ( )", 2, ""),
+    (b"f ( )", 3, ""),
+    (b"f ( )", 2, "nested at 0"),
     (b"f ( )", 1, "nested at 4"),
 ];
 
 /// How high a tree may be.
-static HEIGHTS: [Case; 72] = [
+static HEIGHTS: [Case; 73] = [
     (b"a , b , c", 3, "nested at 0"),
     (b"a , b , c", 4, ""),
     (b"a && b || c", 3, "nested at 0"),
@@ -190,7 +191,8 @@ static HEIGHTS: [Case; 72] = [
     (b"function a ( ) { b . c . d }", 5, ""),
     (b"function a ( ) { b . c . d }", 4, "nested at 0"),
     (b"a + { get b ( ) { c . d . e } }", 4, "nested at 4"),
-    (b"a + { get b ( ) { c . d . e } }", 5, ""),
+    (b"a + { get b ( ) { c . d . e } }", 6, "nested at 0"),
+    (b"a + { get b ( ) { c . d . e } }", 7, ""),
 ];
 
 /// Texts that have one tree, with all its places.
