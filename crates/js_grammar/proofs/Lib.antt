@@ -7,3 +7,5 @@ pub mod AlikeExpressions
 pub mod AlikeStatements
 pub mod Tied
 pub mod Unrolled
+pub mod MoreHeights
+pub mod Laws

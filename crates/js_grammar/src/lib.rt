@@ -3,6 +3,7 @@
 
 ghost use Rattle.js_grammar.specs.ExpressionCases.{ExpressionCases};
 ghost use Rattle.js_grammar.specs.StatementCases.{StatementCases};
+ghost use Rattle.js_grammar.specs.Laws.{GoOn, LimitsNesting, Repeated, Tied};
 ghost use Rattle.js_grammar.specs.HeightCases.{HeightCases};
 ghost use Rattle.js_grammar.specs.OperatorCases.{OperatorCases};
 ghost use Rattle.js_grammar.specs.RefusalCases.{RefusalCases};
@@ -17,4 +18,14 @@ pub fn reading_cases()
     ensures statements { StatementCases }
     ensures heights { HeightCases }
     ensures refusals { RefusalCases }
+{}
+
+/// Laws of the grammar, for every text: the productions tied together are those of the tied ones, a repeated rule is used
+/// once and then repeated, a production goes on behind at least one token and never back, and a greater limit changes only
+/// that something is nested too deep.
+pub fn reading_laws()
+    ensures tied { Tied }
+    ensures repeated { Repeated }
+    ensures go_on { GoOn }
+    ensures limits { LimitsNesting }
 {}
