@@ -1,13 +1,9 @@
 -- The laws of the grammar at the names that the reader uses.
-use Rattle.std.proofs.Common.{◌≡◌, ℕ, ◌≤◌, Bool, true, false, refl, ap, sym, ◌∙◌, arith}
-use Rattle.std.specs.Prelude.{Ok}
-use Rattle.js_value.specs.declared.place.Place.{Place}
-use Rattle.js_grammar.specs.Rest.{Rest, Reading, ◌>>=◌, repeat, at_end}
+use Rattle.std.proofs.Common.{◌≡◌, Bool, true, false, refl, arith}
+use Rattle.js_grammar.specs.Rest.{Rest, ◌>>=◌, repeat}
 use Rattle.js_grammar.specs.Laws.{Unrolls}
 use Rattle.js_grammar.specs.Functions as F
-use Rattle.js_grammar.specs.Primary as P
 use Rattle.js_grammar.specs.Expressions as E
-use Rattle.js_grammar.specs.Declarators as D
 use Rattle.js_grammar.specs.Blocks as B
 use Rattle.js_grammar.specs.Statements as S
 use Rattle.js_grammar.specs.Marks

@@ -1,8 +1,7 @@
 -- A production that goes by its next token.
-use Rattle.std.proofs.Common.{◌≡◌, Bool, true, false, refl, sym, ap, ◌∙◌, subst}
-use Rattle.std.specs.Prelude.{◌≢◌, Option, Some, None, Result, Ok, Err, is_some}
+use Rattle.std.proofs.Common.{◌≡◌, Bool, true, false, refl, subst}
+use Rattle.std.specs.Prelude.{Option, Some, None, Result, Ok, Err, is_some}
 use Rattle.js_tree.specs.declared.refusal.ReadRefused.{ReadRefused}
-use Rattle.js_tree.specs.declared.refusal.ReadRefused.TheVariants.{NoMemory}
 use Rattle.js_tree.specs.declared.token.TokenForm.{TokenForm}
 use Rattle.js_grammar.specs.Rest.{Rest, Reading, next, of_first, passed}
 use Rattle.plain_reader.specs.Reader.{taken, IsAnswer, IsTaken}

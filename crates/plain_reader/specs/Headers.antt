@@ -1,5 +1,5 @@
 -- Parts of statements as the reader keeps them.
-use Rattle.std.specs.Prelude.{◌≡◌, ◌≢◌, ◌||◌, Bool, true, false, if◌then◌else◌, Option, Some, None, Result, Ok, Err}
+use Rattle.std.specs.Prelude.{◌≡◌, ◌≢◌, ◌||◌, if◌then◌else◌, Option, Some, None, Result, Ok, Err}
 use Rattle.js_tree.specs.declared.expression.Expr.{Expr}
 use Rattle.js_tree.specs.declared.refusal.ReadRefused.{ReadRefused}
 use Rattle.js_tree.specs.declared.refusal.ReadRefused.TheVariants.{NoMemory}
@@ -59,6 +59,6 @@ returned = do
 
 abbrev pub catch_name : Reading Name
 catch_name = part (do
-    name ← declared_name
-    expect Marks.right_parenthesis
-    give name)
+  name ← declared_name
+  expect Marks.right_parenthesis
+  give name)

@@ -1,11 +1,8 @@
 -- What a reader's state stands for, and how its answers stand to a production.
-use Rattle.std.specs.Prelude.{◌≡◌, ◌≢◌, ℕ, Bool, true, false, List, Option, Some, None, Result, Ok, Err}
+use Rattle.std.specs.Prelude.{◌≡◌, ◌≢◌, Bool, true, false, List, Option, Some, None, Result, Ok, Err}
 use Rattle.std.specs.Option.{option_map}
-use Rattle.js_tree.specs.declared.expression.Expr.{Expr}
 use Rattle.js_tree.specs.declared.refusal.ReadRefused.{ReadRefused}
 use Rattle.js_tree.specs.declared.refusal.ReadRefused.TheVariants.{NoMemory}
-use Rattle.js_tree.specs.declared.statement.Func.{Func}
-use Rattle.js_tree.specs.declared.statement.Stmt.{Stmt}
 use Rattle.js_tree.specs.declared.token.TokenForm.{TokenForm}
 use Rattle.js_grammar.specs.Heights.{is_within, is_stmt_within}
 use Rattle.js_grammar.specs.Rest.{Rest, Reading, of_first, passed, at_end, sees}
@@ -36,11 +33,9 @@ abbrev pub IsAnswer : {A : Type 0} → Reading A → Rest → Rest → Result A 
 IsAnswer m s t (Ok a) = m s ≡ Ok (a, t)
 IsAnswer m s t (Err e) = e ≢ NoMemory → m s ≡ Err e
 
-
 abbrev pub IsTaken : {A : Type 0} → (TokenForm → Option A) → Rest → Rest → Option A → Type 0
 IsTaken want s t (Some a) = (of_first want s.tokens ≡ Some a) × (t ≡ passed s)
 IsTaken want s t None = (of_first want s.tokens ≡ None) × (t ≡ s)
-
 
 abbrev pub taken : Bool → Option (Unit {0})
 taken true = Some tt

@@ -1,5 +1,5 @@
 -- Parts of trees that are no higher than a number.
-use Rattle.std.specs.Prelude.{ℕ, ◌&&◌, Bool, true, List, Option}
+use Rattle.std.specs.Prelude.{ℕ, Bool, List, Option}
 use Rattle.std.specs.List.{list_all}
 use Rattle.js_value.specs.declared.place.FuncNo.{FuncNo}
 use Rattle.js_tree.specs.declared.expression.ExprForm.{ExprForm, out-ExprForm}

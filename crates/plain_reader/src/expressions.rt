@@ -110,7 +110,12 @@ impl<'a> Reader<'a> {
     /// The value of an assignment, behind its operator.
     #[cycle(reading)]
     #[tactic(auto, unfolding(js_grammar::specs::Rest::part))]
-    pub fn assigned(&mut self, allows_in: bool, target: Expr, op: Option<BinaryOp>) -> Result<Expr, ReadRefused>
+    pub fn assigned(
+        &mut self,
+        allows_in: bool,
+        target: Expr,
+        op: Option<BinaryOp>,
+    ) -> Result<Expr, ReadRefused>
         ensures answer { IsAnswer (spec.assigned grammar allows_in target op) (rest_of self.old) (rest_of self.new) result }
         ensures within { length self.new.rest.now ≤ length self.old.rest.now }
     {
@@ -223,7 +228,12 @@ impl<'a> Reader<'a> {
     /// Operands behind the operators of a level.
     #[cycle(reading)]
     #[tactic(auto, using(crate::proofs::Laws::binary_unroll), unfolding(js_grammar::specs::Rest::next))]
-    pub fn more_binary(&mut self, level: Level, allows_in: bool, left: Expr) -> Result<Expr, ReadRefused>
+    pub fn more_binary(
+        &mut self,
+        level: Level,
+        allows_in: bool,
+        left: Expr,
+    ) -> Result<Expr, ReadRefused>
         ensures answer { IsAnswer (repeat (spec.more_binary grammar (operator_at level allows_in) (read_inside level allows_in)) left) (rest_of self.old) (rest_of self.new) result }
         ensures within { length self.new.rest.now ≤ length self.old.rest.now }
     {

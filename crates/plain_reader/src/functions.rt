@@ -221,7 +221,12 @@ impl<'a> Reader<'a> {
     /// Source elements behind those so far.
     #[cycle(reading)]
     #[tactic(auto, using(crate::proofs::Laws::elements_unroll))]
-    pub fn more_elements(&mut self, closer: Closer, mut so_far: Stmts, leads: bool) -> Result<Stmts, ReadRefused>
+    pub fn more_elements(
+        &mut self,
+        closer: Closer,
+        mut so_far: Stmts,
+        leads: bool,
+    ) -> Result<Stmts, ReadRefused>
         ensures answer { IsAnswer (repeat (spec.more_elements grammar (closed_by closer)) (so_far, leads)) (rest_of self.old) (rest_of self.new) result }
         ensures within { length self.new.rest.now ≤ length self.old.rest.now }
     {
@@ -252,7 +257,12 @@ impl<'a> Reader<'a> {
     /// What stands behind the name of a function, or behind the key of an accessor (13).
     #[cycle(reading)]
     #[tactic(auto, unfolding(js_grammar::specs::Rest::part, js_grammar::specs::Functions::function_behind))]
-    pub fn function_behind(&mut self, at: Place, name: Option<Name>, params: Params) -> Result<Func, ReadRefused>
+    pub fn function_behind(
+        &mut self,
+        at: Place,
+        name: Option<Name>,
+        params: Params,
+    ) -> Result<Func, ReadRefused>
         ensures answer { IsAnswer (spec.function_behind grammar at name (params_by params)) (rest_of self.old) (rest_of self.new) result }
         ensures left { IfOk result (λ _. length self.new.rest.now < length self.old.rest.now) }
         ensures within { length self.new.rest.now ≤ length self.old.rest.now }

@@ -95,10 +95,7 @@ fn is_form_within(functions: &[Func], n: u32, form: &ExprForm) -> bool
     ensures { result ≡ within.form functions.now n form.now }
 {
     match form {
-        ExprForm::This
-        | ExprForm::Name(_)
-        | ExprForm::Literal(_)
-        | ExprForm::Input(_, _) => true,
+        ExprForm::This | ExprForm::Name(_) | ExprForm::Literal(_) | ExprForm::Input(_, _) => true,
         ExprForm::ArrayLit(items) => are_items_within(functions, n, items.as_slice()),
         ExprForm::ObjectLit(fields) => are_fields_within(functions, n, fields.as_slice()),
         ExprForm::Func(f) => is_function_within(functions, n, *f),

@@ -93,11 +93,7 @@ impl<'a> Reader<'a> {
         let kind = self.shape_kind(at, Feature::AbstractForm)?;
         self.shape(at, Feature::AbstractForm, Punctuator::Comma)?;
         let name = self.shape_string(at, Feature::AbstractForm)?;
-        self.shape(
-            at,
-            Feature::AbstractForm,
-            Punctuator::RightParenthesis,
-        )?;
+        self.shape(at, Feature::AbstractForm, Punctuator::RightParenthesis)?;
         let x = self.finish(at, ExprForm::Input(kind, name))?;
         self.leave(opened);
         Ok(x)
@@ -372,7 +368,11 @@ impl<'a> Reader<'a> {
     /// Arguments of a host call behind those so far.
     #[cycle(reading)]
     #[tactic(auto, using(js_grammar::proofs::Unrolled::host_arguments_unroll))]
-    pub fn more_host_arguments(&mut self, at: Place, mut so_far: Exprs) -> Result<Exprs, ReadRefused>
+    pub fn more_host_arguments(
+        &mut self,
+        at: Place,
+        mut so_far: Exprs,
+    ) -> Result<Exprs, ReadRefused>
         ensures answer { IsAnswer (repeat (spec.more_host_arguments grammar at) so_far) (rest_of self.old) (rest_of self.new) result }
         ensures within { length self.new.rest.now ≤ length self.old.rest.now }
     {

@@ -7,8 +7,7 @@ ghost use Rattle.plain_reader.specs.Reader.{rest_of, taken, IsAnswer, IsTaken};
 
 use crate::heights::{is_stmt_within, is_within};
 use js_tree::{
-    Expr, ExprForm, Func, Keyword, Punctuator, ReadRefused, Stmt, StmtForm, Stmts, Token,
-    TokenForm,
+    Expr, ExprForm, Func, Keyword, Punctuator, ReadRefused, Stmt, StmtForm, Stmts, Token, TokenForm,
 };
 use js_value::{Box, FuncNo, NoMemory, Place, Seq, Text};
 use std::alloc::Global;

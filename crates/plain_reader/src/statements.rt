@@ -145,7 +145,11 @@ impl<'a> Reader<'a> {
     /// The initialiser of a declared name, and its place (12.2).
     #[cycle(reading)]
     #[tactic(auto, unfolding(js_grammar::specs::Rest::next))]
-    pub fn initialiser(&mut self, allows_in: bool, name: Name) -> Result<(Declarator, Place), ReadRefused>
+    pub fn initialiser(
+        &mut self,
+        allows_in: bool,
+        name: Name,
+    ) -> Result<(Declarator, Place), ReadRefused>
         ensures answer { IsAnswer (declarators.initialiser grammar allows_in name) (rest_of self.old) (rest_of self.new) result }
         ensures within { length self.new.rest.now ≤ length self.old.rest.now }
     {
@@ -171,7 +175,11 @@ impl<'a> Reader<'a> {
     /// Declarators behind those so far.
     #[cycle(reading)]
     #[tactic(auto, using(js_grammar::proofs::Unrolled::declarators_unroll), unfolding(js_grammar::specs::Rest::next))]
-    pub fn more_declarators(&mut self, allows_in: bool, mut so_far: Declarators) -> Result<Declarators, ReadRefused>
+    pub fn more_declarators(
+        &mut self,
+        allows_in: bool,
+        mut so_far: Declarators,
+    ) -> Result<Declarators, ReadRefused>
         ensures answer { IsAnswer (repeat (declarators.more_declarators grammar allows_in) so_far) (rest_of self.old) (rest_of self.new) result }
         ensures within { length self.new.rest.now ≤ length self.old.rest.now }
     {
@@ -187,7 +195,11 @@ impl<'a> Reader<'a> {
     /// Declarators behind the first one.
     #[cycle(reading)]
     #[tactic(auto, unfolding(js_grammar::specs::Declarators::declarators_behind))]
-    pub fn declarators_behind(&mut self, allows_in: bool, first: Declarator) -> Result<Declarators, ReadRefused>
+    pub fn declarators_behind(
+        &mut self,
+        allows_in: bool,
+        first: Declarator,
+    ) -> Result<Declarators, ReadRefused>
         ensures answer { IsAnswer (declarators.declarators_behind grammar allows_in first) (rest_of self.old) (rest_of self.new) result }
         ensures within { length self.new.rest.now ≤ length self.old.rest.now }
     {
@@ -213,7 +225,11 @@ impl<'a> Reader<'a> {
     /// Statements behind those so far.
     #[cycle(reading)]
     #[tactic(auto, using(crate::proofs::Laws::statements_unroll))]
-    pub fn more_statements(&mut self, closer: Closer, mut so_far: Stmts) -> Result<Stmts, ReadRefused>
+    pub fn more_statements(
+        &mut self,
+        closer: Closer,
+        mut so_far: Stmts,
+    ) -> Result<Stmts, ReadRefused>
         ensures answer { IsAnswer (repeat (blocks.more_statements grammar (closed_by closer)) so_far) (rest_of self.old) (rest_of self.new) result }
         ensures within { length self.new.rest.now ≤ length self.old.rest.now }
     {
@@ -717,7 +733,7 @@ impl<'a> Reader<'a> {
 
     /// A statement, or a function declaration (14).
     #[cycle(reading)]
-    #[tactic(auto, using(js_grammar::proofs::Unrolled::element_tied,js_grammar::proofs::Unrolled::statement_tied), unfolding(js_grammar::specs::Statements::element))]
+    #[tactic(auto, using(js_grammar::proofs::Unrolled::element_tied, js_grammar::proofs::Unrolled::statement_tied), unfolding(js_grammar::specs::Statements::element))]
     pub fn element(&mut self) -> Result<Stmt, ReadRefused>
         ensures answer { IsAnswer grammar.element (rest_of self.old) (rest_of self.new) result }
         ensures left { IfOk result (λ _. length self.new.rest.now < length self.old.rest.now) }

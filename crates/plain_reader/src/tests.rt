@@ -1,5 +1,7 @@
 //! Cases of reading, worked out by hand: what is read, what is refused and where, and which texts have one tree.
 
+ghost use Rattle.std.specs.Prelude.{◌<◌, length};
+
 use crate::read;
 use js_lex::lex;
 use js_tree::{ReadRefused, Script};
@@ -28,7 +30,11 @@ static MISPLACED: [Case; 25] = [
     (b"return ; )", 50, "syntax at 9"),
     (b"__abstract ( \"number\" , \"n\" ) = a", 50, "syntax at 0"),
     (b"__residual ( \"number\" , \"a\" ) ++", 50, "syntax at 0"),
-    (b"for ( __abstract ( \"number\" , \"n\" ) in a ) ;", 50, "syntax at 6"),
+    (
+        b"for ( __abstract ( \"number\" , \"n\" ) in a ) ;",
+        50,
+        "syntax at 6",
+    ),
     (b"throw \n a", 50, "syntax at 8"),
     (b"a b", 50, "syntax at 2"),
     (b"", 50, ""),
@@ -44,16 +50,40 @@ static MISPLACED: [Case; 25] = [
 /// What is refused by name.
 static UNSUPPORTED: [Case; 28] = [
     (b"var a \n / b", 50, "unsupported at 8: RegularExpression"),
-    (b"do ; while ( a ) \n / b", 50, "unsupported at 19: RegularExpression"),
+    (
+        b"do ; while ( a ) \n / b",
+        50,
+        "unsupported at 19: RegularExpression",
+    ),
     (b"a \n : b", 50, "unsupported at 0: Label"),
     (b"break __abstract", 50, "unsupported at 6: Label"),
-    (b"__abstract ( \"object\"", 50, "unsupported at 0: AbstractForm"),
+    (
+        b"__abstract ( \"object\"",
+        50,
+        "unsupported at 0: AbstractForm",
+    ),
     (b"__abstract ( \"number\" , \"n\"", 50, "syntax at 27"),
-    (b"for ( var a = b \n in c ) ;", 50, "unsupported at 14: ForInInitialiser"),
+    (
+        b"for ( var a = b \n in c ) ;",
+        50,
+        "unsupported at 14: ForInInitialiser",
+    ),
     (b"delete a = b", 50, "unsupported at 0: DeleteName"),
-    (b"do function a ( ) { } while ( b )", 50, "unsupported at 3: FunctionInBlock"),
-    (b"if ( a ) ; else function b ( ) { }", 50, "unsupported at 16: FunctionInBlock"),
-    (b"try { } catch ( a ) { function b ( ) { } }", 50, "unsupported at 22: FunctionInBlock"),
+    (
+        b"do function a ( ) { } while ( b )",
+        50,
+        "unsupported at 3: FunctionInBlock",
+    ),
+    (
+        b"if ( a ) ; else function b ( ) { }",
+        50,
+        "unsupported at 16: FunctionInBlock",
+    ),
+    (
+        b"try { } catch ( a ) { function b ( ) { } }",
+        50,
+        "unsupported at 22: FunctionInBlock",
+    ),
     (b"with ( a ) b", 50, "unsupported at 0: With"),
     (b"debugger", 50, "unsupported at 0: Debugger"),
     (b"a : b", 50, "unsupported at 0: Label"),
@@ -62,15 +92,31 @@ static UNSUPPORTED: [Case; 28] = [
     (b"arguments", 50, "unsupported at 0: Arguments"),
     (b"\"use strict\"", 50, "unsupported at 0: StrictCode"),
     (b"'use strict' ; a", 50, "unsupported at 0: StrictCode"),
-    (b"\"a\" ; \"use strict\"", 50, "unsupported at 6: StrictCode"),
+    (
+        b"\"a\" ; \"use strict\"",
+        50,
+        "unsupported at 6: StrictCode",
+    ),
     (b"\"use strict\" + a", 50, ""),
     (b"( \"use strict\" )", 50, ""),
     (b"\"use\\x20strict\"", 50, ""),
     (b"a ; \"use strict\"", 50, ""),
-    (b"var a = function eval ( ) { }", 50, "unsupported at 17: Eval"),
-    (b"try { } catch ( arguments ) { }", 50, "unsupported at 16: Arguments"),
+    (
+        b"var a = function eval ( ) { }",
+        50,
+        "unsupported at 17: Eval",
+    ),
+    (
+        b"try { } catch ( arguments ) { }",
+        50,
+        "unsupported at 16: Arguments",
+    ),
     (b"__abstract", 50, "syntax at 10"),
-    (b"__abstract ( \"number\" , 1 )", 50, "unsupported at 0: AbstractForm"),
+    (
+        b"__abstract ( \"number\" , 1 )",
+        50,
+        "unsupported at 0: AbstractForm",
+    ),
 ];
 
 /// What is read.
@@ -227,7 +273,9 @@ static SAME_TREES: [(&'static [u8], &'static [u8]); 28] = [
     (b"a ? b : ( c ? d : e )", b"a ? b :   c ? d : e  "),
 ];
 
-fn answer(alloc: Global, text: &[u8], limit: u32) -> Result<Script, ReadRefused> {
+fn answer(alloc: Global, text: &[u8], limit: u32) -> Result<Script, ReadRefused>
+    requires { length text.now < 1000 }
+{
     read(alloc, &lex(alloc, text)?, limit)
 }
 
@@ -265,7 +313,9 @@ fn reads_texts(rt: HostRuntime) -> Result<(), Fail> {
     Ok(())
 }
 
-fn tree(alloc: Global, text: &[u8]) -> Result<String, Fail> {
+fn tree(alloc: Global, text: &[u8]) -> Result<String, Fail>
+    requires { length text.now < 1000 }
+{
     let script = answer(alloc, text, 50).ok().ok_or("refused")?;
     let mut out = String::new(alloc);
     write!(out, "{script:?}")?;
@@ -276,7 +326,8 @@ fn tree(alloc: Global, text: &[u8]) -> Result<String, Fail> {
 fn groups_alike(rt: HostRuntime) -> Result<(), Fail> {
     let alloc = rt.alloc();
     for (a, b) in SAME_TREES {
-        assert!(rt; a.len() < 1000 && b.len() < 1000);
+        assert!(rt; a.len() < 1000);
+        assert!(rt; b.len() < 1000);
         let (left, right) = (tree(alloc, a)?, tree(alloc, b)?);
         assert_eq!(rt; left.as_str(), right.as_str(), "of {a:?} and {b:?}");
     }

@@ -9,9 +9,7 @@ ghost use Rattle.plain_reader.specs.Reader.{rest_of, IsAnswer, IsTaken};
 
 use crate::reader::Reader;
 use crate::words::{kind_of, property_name, spelled, text_of};
-use js_tree::{
-    ExprForm, Keyword, LogicOp, Punctuator, ReadRefused, StepOp, Token, TokenForm,
-};
+use js_tree::{ExprForm, Keyword, LogicOp, Punctuator, ReadRefused, StepOp, Token, TokenForm};
 use js_value::{BinaryOp, Kind, NoMemory, Primitive, Text, UnaryOp};
 
 impl<'a> Reader<'a> {

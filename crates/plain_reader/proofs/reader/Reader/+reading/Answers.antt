@@ -1,4 +1,4 @@
-use Rattle.std.proofs.Common.{◌≡◌, sym, ◌∙◌}
+use Rattle.std.proofs.Common.{sym, ◌∙◌}
 use Rattle.js_grammar.specs.Primary.{new_or_none, enclosed_or_new}
 use Rattle.plain_reader.proofs.Next.{there, absent, not_seen}
 use Rattle.plain_reader.proofs.reader.Reader.+reading.Goals as goal
