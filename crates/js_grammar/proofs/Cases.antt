@@ -1,5 +1,6 @@
 -- The cases compute.
-use Rattle.std.proofs.Common.{ℕ, List, ◌≡◌, refl, map, Ok}
+use Rattle.std.specs.Fmt.{digits}
+use Rattle.std.proofs.Common.{ℕ, true, List, ◌≡◌, refl, map, Ok}
 use Rattle.js_tree.specs.declared.expression.ExprForm.{out-ExprForm}
 use Rattle.js_tree.specs.declared.statement.StmtForm.{out-StmtForm}
 use Rattle.js_tree.specs.Lexing.{reserved_word}
@@ -24,7 +25,7 @@ use Rattle.js_grammar.specs.StatementCases.{StatementCases, statement_texts, mis
 use Rattle.js_grammar.specs.StatementCases.{barred_in_texts, ended_texts, unended_texts}
 use Rattle.js_grammar.specs.TreeCases.{TreeCases, tree_texts}
 use Rattle.js_grammar.specs.RefusalCases.{RefusalCases, unsupported_texts, supported_texts, forms_texts, no_forms_texts, strict_texts}
-use Rattle.js_grammar.specs.RefusalCases.{sloppy_texts, open_parts_texts}
+use Rattle.js_grammar.specs.RefusalCases.{sloppy_texts, written_tokens, open_parts_texts}
 
 -- each production is opened where this is
 unfoldable pub all_opened : ℕ → List ℕ → Answer
@@ -146,6 +147,10 @@ sloppy_cases : AreRead sloppy_texts
 unfolding all_opened
 sloppy_cases = refl
 
+written_cases : map (λ row. read_by (λ _ _. true) (λ _ _. true) row.0 50) written_tokens ≡ map (λ row. row.1) written_tokens
+unfolding all_opened
+written_cases = refl
+
 open_parts_cases : AreOpen open_parts_texts
 unfolding all_opened
 open_parts_cases = refl
@@ -187,11 +192,12 @@ refusal_cases = record {
   no_forms = no_forms_cases;
   strict = strict_cases;
   sloppy = sloppy_cases;
+  written = written_cases;
   open_parts = open_parts_cases;
 }
 
 trees_read : map (λ row. read_text 50 row.0) tree_texts ≡ map (λ row. Ok row.1) tree_texts
-unfolding all_opened
+unfolding all_opened digits
 trees_read = refl
 
 pub tree_cases : TreeCases

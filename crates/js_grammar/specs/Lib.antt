@@ -19,4 +19,5 @@ pub mod RefusalCases
 pub mod TreeCases
 pub mod HeightCases
 pub mod OperatorCases
+pub mod EndCases
 pub mod Laws

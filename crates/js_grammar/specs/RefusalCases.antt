@@ -1,9 +1,16 @@
 -- Cases of what is refused by name, and how deep parts nest, worked out by hand: each rule has some that take it and some that just miss it.
-use Rattle.std.specs.Prelude.{ℕ, codes, List, [], ◌∷◌, Option, Some, None}
+use Rattle.std.specs.Prelude.{◌≡◌, ℕ, true, false, codes, List, [], ◌∷◌, map, Option, Some, None, Ok}
+use Rattle.js_value.specs.declared.primitive.Primitive.TheVariants as primitive
+use Rattle.js_tree.specs.declared.expression.ExprForm.TheVariants as e
 use Rattle.js_tree.specs.declared.refusal.Feature.TheVariants as feature
 use Rattle.js_tree.specs.declared.refusal.ReadRefused.{ReadRefused}
 use Rattle.js_tree.specs.declared.refusal.ReadRefused.TheVariants.{Syntax, Nested}
+use Rattle.js_tree.specs.declared.statement.StmtForm.TheVariants as s
+use Rattle.js_tree.specs.declared.token.TokenForm.TheVariants as form
+use Rattle.js_tree.specs.declared.token.Tokens.{Tokens}
 use Rattle.js_tree.specs.Refusals.{place, syntax, unsupported}
+use Rattle.js_tree.specs.Trees.{expr, stmt, one}
+use Rattle.js_grammar.specs.Reading.{read_by}
 use Rattle.js_grammar.specs.Answers.{Answer, AreRead, AreAnswered, AreOpen}
 
 -- what is named as unsupported
@@ -139,6 +146,20 @@ sloppy_texts =
     ∷ codes "\"use__strict\""
     ∷ []
 
+-- a statement of these units, the token taking the bytes from 0 to the second number
+abbrev pub statement_of : List ℕ → ℕ → Tokens
+statement_of text end = record {
+  items = record { at = place 0; end = place end; line_before = false; form = form.Str text } ∷ [];
+  end = place end;
+}
+
+-- 14.1: with its two quotes it takes twelve bytes where it is written without escapes, and more where it has one
+abbrev pub written_tokens : List (Tokens × Answer)
+written_tokens =
+    (statement_of (codes "use strict") 12, unsupported 0 feature.StrictCode)
+    ∷ (statement_of (codes "use strict") 13, Ok (one (stmt 0 (s.Eval (expr 0 (e.Literal (primitive.Text (codes "use strict"))))))))
+    ∷ []
+
 -- open parts: as many as the limit allows, and one more
 abbrev pub open_parts_texts : List (List ℕ × ℕ × Option ReadRefused)
 open_parts_texts =
@@ -209,4 +230,5 @@ pub record RefusalCases : Type 0 where
   pub no_forms : AreAnswered no_forms_texts
   pub strict : AreAnswered strict_texts
   pub sloppy : AreRead sloppy_texts
+  pub written : map (λ row. read_by (λ _ _. true) (λ _ _. true) row.0 50) written_tokens ≡ map (λ row. row.1) written_tokens
   pub open_parts : AreOpen open_parts_texts

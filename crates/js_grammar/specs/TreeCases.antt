@@ -1,5 +1,5 @@
 -- Cases of trees with their places, worked out by hand.
-use Rattle.std.specs.Prelude.{◌≡◌, ℕ, pos, codes, List, [], ◌∷◌, map, Some, None, Ok}
+use Rattle.std.specs.Prelude.{◌≡◌, ℕ, pos, true, false, codes, List, [], ◌∷◌, map, Some, None, Ok}
 use Rattle.js_value.specs.declared.operator.UnaryOp.TheVariants as unary
 use Rattle.js_value.specs.declared.primitive.Kind.TheVariants as kind
 use Rattle.js_value.specs.declared.primitive.Primitive.TheVariants as primitive
@@ -11,6 +11,7 @@ use Rattle.js_tree.specs.declared.statement.ForTarget.TheVariants as target
 use Rattle.js_tree.specs.declared.statement.Script.{Script}
 use Rattle.js_tree.specs.declared.statement.StmtForm.TheVariants as s
 use Rattle.js_grammar.specs.Answers.{read_text}
+use Rattle.js_grammar.specs.OperatorCases.{alone}
 use Rattle.js_tree.specs.Refusals.{place}
 use Rattle.js_tree.specs.Trees.{expr, name, stmt, no, declared, func, declarator, clause, handler, final, script, one}
 
@@ -86,6 +87,63 @@ tree_texts =
           ∷ func 45 None [] []
           ∷ func 66 (Some (declared 75 (codes "d"))) [] []
           ∷ []),
+    )
+    -- each of the other forms
+    ∷ (codes "null", alone (e.Literal primitive.Null))
+    ∷ (codes "true", alone (e.Literal (primitive.Boolean true)))
+    ∷ (codes "false", alone (e.Literal (primitive.Boolean false)))
+    ∷ (codes "\"a\"", alone (e.Literal (primitive.Text (codes "a"))))
+    ∷ (codes "this", alone e.This)
+    ∷ (codes "a . if", alone (e.Member (name 0 (codes "a")) (codes "if")))
+    ∷ (codes "a [ b ]", alone (e.Index (name 0 (codes "a")) (name 4 (codes "b"))))
+    ∷ (codes "a ( b , c )", alone (e.Call (name 0 (codes "a")) (name 4 (codes "b") ∷ name 8 (codes "c") ∷ [])))
+    ∷ (codes "new a ( b )", alone (e.New (name 4 (codes "a")) (name 8 (codes "b") ∷ [])))
+    ∷ (codes "new a", alone (e.New (name 4 (codes "a")) []))
+    ∷ (codes "[ , ]", alone (e.ArrayLit (None ∷ [])))
+    ∷ (codes "[ a , , ]", alone (e.ArrayLit (Some (name 2 (codes "a")) ∷ None ∷ [])))
+    ∷ (codes "__abstract ( \"boolean\" , \"n\" )", alone (e.Input kind.Boolean (codes "n")))
+    ∷ (
+      codes "__residual ( \"string\" , \"a\" , b , c )",
+      alone (e.HostCall kind.Text (codes "a") (name 30 (codes "b") ∷ name 34 (codes "c") ∷ [])),
+    )
+    ∷ (
+      codes "x = { set a ( b ) { } , if : c , 2 : d , \"e\" : f }",
+      script
+          (stmt 0 (s.Eval (expr 0 (e.Assign (name 0 (codes "x")) None (expr 4 (e.ObjectLit
+          (field.Setter (place 10) (codes "a") (no 0)
+          ∷ field.Value (place 24) (codes "if") (name 29 (codes "c"))
+          ∷ field.Value (place 33) (codes "2") (name 37 (codes "d"))
+          ∷ field.Value (place 41) (codes "e") (name 47 (codes "f"))
+          ∷ [])))))) ∷ [])
+          (func 6 None (declared 14 (codes "b") ∷ []) [] ∷ []),
+    )
+    ∷ (
+      codes "x = function a ( ) { }",
+      script
+          (stmt 0 (s.Eval (expr 0 (e.Assign (name 0 (codes "x")) None (expr 4 (e.Func (no 0)))))) ∷ [])
+          (func 4 (Some (declared 13 (codes "a"))) [] [] ∷ []),
+    )
+    ∷ (codes "{ a ; }", one (stmt 0 (s.Block (stmt 2 (s.Eval (name 2 (codes "a"))) ∷ []))))
+    ∷ (codes "break ; continue", script (stmt 0 s.Break ∷ stmt 8 s.Continue ∷ []) [])
+    ∷ (codes "return ;", one (stmt 0 (s.Return None)))
+    ∷ (codes "throw a", one (stmt 0 (s.Throw (name 6 (codes "a")))))
+    ∷ (codes "while ( a ) b", one (stmt 0 (s.While (name 8 (codes "a")) (stmt 12 (s.Eval (name 12 (codes "b")))))))
+    ∷ (
+      codes "for ( a ; b ; c ) ;",
+      one (stmt 0 (s.For (start.Expr (name 6 (codes "a"))) (Some (name 10 (codes "b"))) (Some (name 14 (codes "c"))) (stmt 18 s.Empty))),
+    )
+    ∷ (codes "for ( ; ; ) ;", one (stmt 0 (s.For start.Nothing None None (stmt 12 s.Empty))))
+    ∷ (
+      codes "var a , b = c",
+      one (stmt 0 (s.Var (declarator 4 (codes "a") None ∷ declarator 8 (codes "b") (Some (name 12 (codes "c"))) ∷ []))),
+    )
+    ∷ (codes "try { } finally { }", one (stmt 0 (s.Try [] None (Some (final [])))))
+    ∷ (codes "try { } catch ( a ) { }", one (stmt 0 (s.Try [] (Some (handler 16 (codes "a") [])) None)))
+    ∷ (
+      codes "function a ( b , c ) { }",
+      script
+          (stmt 0 (s.FuncDecl (no 0)) ∷ [])
+          (func 0 (Some (declared 9 (codes "a"))) (declared 13 (codes "b") ∷ declared 17 (codes "c") ∷ []) [] ∷ []),
     )
     ∷ []
 

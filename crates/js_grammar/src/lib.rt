@@ -1,6 +1,7 @@
 //! Reading as a definition: the grammar of scripts on lists of tokens.
 #![tactic(auto)]
 
+ghost use Rattle.js_grammar.specs.EndCases.{EndCases};
 ghost use Rattle.js_grammar.specs.ExpressionCases.{ExpressionCases};
 ghost use Rattle.js_grammar.specs.StatementCases.{StatementCases};
 ghost use Rattle.js_grammar.specs.Laws.{GoOn, LimitsNesting, Repeated, Tied};
@@ -10,12 +11,13 @@ ghost use Rattle.js_grammar.specs.RefusalCases.{RefusalCases};
 ghost use Rattle.js_grammar.specs.TreeCases.{TreeCases};
 
 /// Cases of reading, worked out by hand: trees with their places, what is read, what is refused and where, how operators
-/// group, how many parts may be open at once, and how high a tree may be.
+/// group, which tokens continue a statement, how many parts may be open at once, and how high a tree may be.
 pub fn reading_cases()
     ensures trees { TreeCases }
     ensures expressions { ExpressionCases }
     ensures operators { OperatorCases }
     ensures statements { StatementCases }
+    ensures ends { EndCases }
     ensures heights { HeightCases }
     ensures refusals { RefusalCases }
 {}

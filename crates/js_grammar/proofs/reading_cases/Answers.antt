@@ -1,4 +1,5 @@
 use Rattle.js_grammar.proofs.Cases.{tree_cases, expression_cases, statement_form_cases, refusal_cases}
+use Rattle.js_grammar.proofs.EndCases.{end_cases}
 use Rattle.js_grammar.proofs.HeightCases.{height_cases}
 use Rattle.js_grammar.proofs.OperatorCases.{operator_cases}
 use Rattle.js_grammar.proofs.reading_cases.Goals as goal
@@ -14,6 +15,9 @@ returns-clause-operators c = operator_cases
 
 pub returns-clause-statements : goal.returns-clause-statements
 returns-clause-statements c = statement_form_cases
+
+pub returns-clause-ends : goal.returns-clause-ends
+returns-clause-ends c = end_cases
 
 pub returns-clause-heights : goal.returns-clause-heights
 returns-clause-heights c = height_cases
