@@ -59,6 +59,8 @@ misplaced_texts =
     ∷ (codes "switch ( a ) { b ; }", syntax 15)
     ∷ (codes "switch ( a ) { case : }", syntax 20)
     ∷ (codes "switch ( a ) { case b ; }", syntax 22)
+    ∷ (codes "switch ( a ) { default : default : }", syntax 25)
+    ∷ (codes "switch ( a ) { default : b ; case c : default : }", syntax 38)
     ∷ (codes "throw ;", syntax 6)
     ∷ (codes "try { } a ;", syntax 8)
     ∷ (codes "try { }", syntax 7)
