@@ -2,6 +2,7 @@ pub mod Cases
 pub mod HeightCases
 pub mod OperatorCases
 pub mod EndCases
+pub mod ReadableCases
 pub mod Alike
 pub mod AlikeParts
 pub mod AlikeExpressions

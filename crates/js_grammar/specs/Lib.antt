@@ -20,4 +20,9 @@ pub mod TreeCases
 pub mod HeightCases
 pub mod OperatorCases
 pub mod EndCases
+pub mod ReadableWords
+pub mod FunctionOrder
+pub mod Readable
+pub mod ReadableCases
+pub mod ReadableNameCases
 pub mod Laws

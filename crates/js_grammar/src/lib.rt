@@ -8,6 +8,8 @@ ghost use Rattle.js_grammar.specs.Laws.{GoOn, LimitsNesting, Repeated, Tied};
 ghost use Rattle.js_grammar.specs.HeightCases.{HeightCases};
 ghost use Rattle.js_grammar.specs.OperatorCases.{OperatorCases};
 ghost use Rattle.js_grammar.specs.RefusalCases.{RefusalCases};
+ghost use Rattle.js_grammar.specs.ReadableCases.{ReadableCases};
+ghost use Rattle.js_grammar.specs.ReadableNameCases.{ReadableNameCases};
 ghost use Rattle.js_grammar.specs.TreeCases.{TreeCases};
 
 /// Cases of reading, worked out by hand: trees with their places, what is read, what is refused and where, how operators
@@ -20,6 +22,12 @@ pub fn reading_cases()
     ensures ends { EndCases }
     ensures heights { HeightCases }
     ensures refusals { RefusalCases }
+{}
+
+/// Cases of trees that reading can give, and of some that it can't, worked out by hand.
+pub fn readable_cases()
+    ensures trees { ReadableCases }
+    ensures names { ReadableNameCases }
 {}
 
 /// Laws of the grammar, for every text: the productions tied together are those of the tied ones, a repeated rule is used
