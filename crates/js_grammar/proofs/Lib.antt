@@ -3,6 +3,7 @@ pub mod HeightCases
 pub mod OperatorCases
 pub mod EndCases
 pub mod ReadableCases
+pub mod ReadablePartCases
 pub mod Alike
 pub mod AlikeParts
 pub mod AlikeExpressions

@@ -20,36 +20,37 @@ use Rattle.js_tree.specs.Lexing.{is_name_start, is_name_part, reserved_word}
 use Rattle.js_tree.specs.Mentions.{mentions, hoisted_vars, hoisted_functions}
 use Rattle.js_tree.proofs.EarlyCases.{expr_first, expr_second, form_first, form_second}
 use Rattle.js_grammar.specs.FunctionOrder.{are_in_source_order}
-use Rattle.js_grammar.specs.Readable.{ReadExpr, of_form, of_field, in_form, in_expr, are_parts_readable, are_inputs_alike, is_readable}
+use Rattle.js_grammar.specs.ReadableExpressions.{ReadExpr, of_form, of_field, in_form, in_expr}
+use Rattle.js_grammar.specs.Readable.{are_parts_readable, are_inputs_alike, is_readable}
 use Rattle.js_tree.specs.declared.statement.Script.{Script}
 use Rattle.js_grammar.specs.ReadableCases.{ReadableCases, AreReadable, if_rows, loop_rows, part_rows, jump_rows, assignment_rows, target_rows, delete_rows, literal_rows, form_rows}
 use Rattle.js_grammar.specs.ReadableNameCases.{ReadableNameCases, name_rows, declared_rows, key_rows, order_rows, inner_rows, accessor_rows, repeated_rows, declaration_rows, strict_rows}
 
 -- `$` and `_` are characters of names, whatever Unicode says of them
 
-dollar_starts : is_name_start 36 ≡ true
+pub dollar_starts : is_name_start 36 ≡ true
 unfolding is_name_start
 dollar_starts = simp or-true
 
-low_line_starts : is_name_start 95 ≡ true
+pub low_line_starts : is_name_start 95 ≡ true
 unfolding is_name_start
 low_line_starts = simp or-true
 
-dollar_goes_on : is_name_part 36 ≡ true
+pub dollar_goes_on : is_name_part 36 ≡ true
 unfolding is_name_part
 dollar_goes_on = simp or-true
 
-low_line_goes_on : is_name_part 95 ≡ true
+pub low_line_goes_on : is_name_part 95 ≡ true
 unfolding is_name_part
 low_line_goes_on = simp or-true
 
 -- what is asked of an expression, where nothing else is of it
-expr_readable : (functions : List Func) (x : Expr) → (in_expr functions x).readable ≡ (in_form functions x.form).readable
+pub expr_readable : (functions : List Func) (x : Expr) → (in_expr functions x).readable ≡ (in_form functions x.form).readable
 expr_readable functions x = ap (λ (r : ReadExpr). r.readable) (fold_out-Expr ReadExpr Bool ReadExpr (of_form functions) (of_field functions) (λ x. x.form) x)
 
 module _ (P A B C D E : Type 0) (form : StmtForm-F (P → A) B C D E → P → A) (clause : Case-F (P → A) B C D E → B) (handler : Catch-F (P → A) B C D E → C)
     (final : Finally-F (P → A) B C D E → D) (stmt : Stmt-F (P → A) B C D E → E) where
-  stmt_form_at : (f : StmtForm) (at : P) → fold-StmtForm (P → A) B C D E form clause handler final stmt f at
+  pub stmt_form_at : (f : StmtForm) (at : P) → fold-StmtForm (P → A) B C D E form clause handler final stmt f at
       ≡ form (map-StmtForm StmtForm Case Catch Finally Stmt (P → A) B C D E (fold-StmtForm (P → A) B C D E form clause handler final stmt) (fold-Case (P → A) B C D E form clause handler final stmt) (fold-Catch (P → A) B C D E form clause handler final stmt) (fold-Finally (P → A) B C D E form clause handler final stmt) (fold-Stmt (P → A) B C D E form clause handler final stmt) (out-StmtForm f)) at
   stmt_form_at f at = ap (λ g. g at) (fold_out-StmtForm (P → A) B C D E form clause handler final stmt f)
 

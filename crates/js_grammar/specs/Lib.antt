@@ -22,7 +22,9 @@ pub mod OperatorCases
 pub mod EndCases
 pub mod ReadableWords
 pub mod FunctionOrder
+pub mod ReadableExpressions
 pub mod Readable
 pub mod ReadableCases
 pub mod ReadableNameCases
+pub mod ReadablePartCases
 pub mod Laws

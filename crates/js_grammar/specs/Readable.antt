@@ -1,17 +1,9 @@
 -- Trees that reading can give.
-use Rattle.std.specs.Prelude.{◌==◌, ◌&&◌, ◌||◌, ℕ, Bool, true, false, not, if◌then◌else◌, nat_le, List, [], ◌∷◌, length, slice_get, sum_by, Option, Some, None, is_none, is_some}
+use Rattle.std.specs.Prelude.{◌&&◌, ◌||◌, ℕ, Bool, true, false, not, if◌then◌else◌, nat_le, List, [], ◌∷◌, slice_get, sum_by, Option, Some, None, is_none, is_some}
 use Rattle.std.specs.List.{list_all}
 use Rattle.std.specs.Str.{bytes_eq}
-use Rattle.js_value.specs.declared.operator.BinaryOp.{BinaryOp}
-use Rattle.js_value.specs.declared.operator.BinaryOp.TheVariants as binary
-use Rattle.js_value.specs.declared.operator.UnaryOp.{UnaryOp}
-use Rattle.js_value.specs.declared.operator.UnaryOp.TheVariants as unary
 use Rattle.js_value.specs.declared.primitive.Kind.{Kind}
 use Rattle.js_value.specs.contracts.primitive.KindPartialEq.TheImpl.{ghosts}
-use Rattle.js_tree.specs.declared.expression.Expr.{Expr, fold-Expr}
-use Rattle.js_tree.specs.declared.expression.Field.{Field, fold-Field}
-use Rattle.js_tree.specs.declared.expression.ExprForm.{ExprForm, fold-ExprForm}
-use Rattle.js_tree.specs.declared.expression.ExprForm.TheOpen.{ExprForm-F, Field-F}
 use Rattle.js_tree.specs.declared.statement.Declarator.{Declarator}
 use Rattle.js_tree.specs.declared.statement.ForStart.{ForStart}
 use Rattle.js_tree.specs.declared.statement.ForStart.TheVariants as start
@@ -29,105 +21,8 @@ use Rattle.js_tree.specs.declared.statement.StmtForm.TheOpen.{StmtForm-F, Case-F
 use Rattle.js_tree.specs.Early.{early_fault}
 use Rattle.js_tree.specs.Mentions.{Mention, Takes, mentions}
 use Rattle.js_grammar.specs.FunctionOrder.{are_in_source_order}
-use Rattle.js_grammar.specs.ReadableWords.{is_readable_text, is_identifier_name, is_identifier, is_readable_literal}
-
--- ---- functions by their numbers (13, 11.1.5)
-
-abbrev pub has_name : Option Func → Bool
-has_name None = false
-has_name (Some f) = is_some f.name
-
--- the function of an accessor has no name, and so many parameters
-abbrev pub is_accessor : ℕ → Option Func → Bool
-is_accessor parameters None = false
-is_accessor parameters (Some f) = is_none f.name && length f.params == parameters
-
--- ---- expressions (11)
-
--- whether reading can give an expression, whether it is a target, and whether it is a name
-pub record ReadExpr : Type 0 where
-  pub readable : Bool
-  pub is_target : Bool
-  pub is_name : Bool
-
-abbrev pub value : Bool → ReadExpr
-value readable = record { readable = readable; is_target = false; is_name = false }
-
-abbrev pub member : Bool → ReadExpr
-member readable = record { readable = readable; is_target = true; is_name = false }
-
-abbrev pub are_readable : List ReadExpr → Bool
-are_readable xs = list_all (λ (x : ReadExpr). x.readable) xs
-
-abbrev pub is_element : Option ReadExpr → Bool
-is_element None = true
-is_element (Some x) = x.readable
-
--- 11.13.2: an operator that an assignment can be compounded with
-abbrev pub is_compound : Option BinaryOp → Bool
-is_compound None = true
-is_compound (Some op) = elim op [
-  | binary.Mul ↦ true
-  | binary.Div ↦ true
-  | binary.Rem ↦ true
-  | binary.Add ↦ true
-  | binary.Sub ↦ true
-  | binary.Shl ↦ true
-  | binary.Sar ↦ true
-  | binary.Shr ↦ true
-  | binary.BitAnd ↦ true
-  | binary.BitXor ↦ true
-  | binary.BitOr ↦ true
-  | _ ↦ false
-]
-
--- 11.4.1
-abbrev pub is_delete : UnaryOp → Bool
-is_delete op = elim op [ unary.Delete ↦ true | _ ↦ false ]
-
-module _ (functions : List Func) where
-  abbrev pub of_field : Field-F ReadExpr Bool ReadExpr → Bool
-  of_field (Field-F.Value at key x) = is_readable_text key && x.readable
-  of_field (Field-F.Getter at key f) = is_readable_text key && is_accessor 0 (slice_get functions f.0)
-  of_field (Field-F.Setter at key f) = is_readable_text key && is_accessor 1 (slice_get functions f.0)
-
-  -- the operand of `delete` is no name (11.4.1)
-  abbrev pub of_form : ExprForm-F ReadExpr Bool ReadExpr → ReadExpr
-  of_form ExprForm-F.This = value true
-  of_form (ExprForm-F.Name text) = record { readable = is_identifier text; is_target = true; is_name = true }
-  of_form (ExprForm-F.Literal literal) = value (is_readable_literal literal)
-  of_form (ExprForm-F.ArrayLit items) = value (list_all is_element items)
-  of_form (ExprForm-F.ObjectLit fields) = value (list_all (λ b. b) fields)
-  of_form (ExprForm-F.Func f) = value true
-  of_form (ExprForm-F.Member object key) = member (object.readable && is_identifier_name key)
-  of_form (ExprForm-F.Index object key) = member (object.readable && key.readable)
-  of_form (ExprForm-F.Call callee args) = value (callee.readable && are_readable args)
-  of_form (ExprForm-F.New callee args) = value (callee.readable && are_readable args)
-  of_form (ExprForm-F.Unary op a) = value (a.readable && not (is_delete op && a.is_name))
-  of_form (ExprForm-F.Binary op a b) = value (a.readable && b.readable)
-  of_form (ExprForm-F.Logic op a b) = value (a.readable && b.readable)
-  of_form (ExprForm-F.Conditional test a b) = value (test.readable && a.readable && b.readable)
-  of_form (ExprForm-F.Assign a op b) = value (a.readable && a.is_target && is_compound op && b.readable)
-  of_form (ExprForm-F.Step op a) = value (a.readable && a.is_target)
-  of_form (ExprForm-F.Comma a b) = value (a.readable && b.readable)
-  of_form (ExprForm-F.Input kind text) = value (is_readable_text text)
-  of_form (ExprForm-F.HostCall kind text args) = value (is_readable_text text && are_readable args)
-
-  abbrev pub in_form : ExprForm → ReadExpr
-  in_form = fold-ExprForm ReadExpr Bool ReadExpr of_form of_field (λ x. x.form)
-
-  abbrev pub in_field : Field → Bool
-  in_field = fold-Field ReadExpr Bool ReadExpr of_form of_field (λ x. x.form)
-
-  abbrev pub in_expr : Expr → ReadExpr
-  in_expr = fold-Expr ReadExpr Bool ReadExpr of_form of_field (λ x. x.form)
-
-  abbrev pub is_expr : Expr → Bool
-  is_expr x = (in_expr x).readable
-
-  abbrev pub is_maybe : Option Expr → Bool
-  is_maybe None = true
-  is_maybe (Some x) = is_expr x
+use Rattle.js_grammar.specs.ReadableWords.{is_identifier}
+use Rattle.js_grammar.specs.ReadableExpressions.{in_expr, is_expr, is_maybe}
 
 -- ---- statements (12)
 
@@ -163,6 +58,11 @@ are_clauses cs = list_all (λ (c : ReadCase). c.readable) cs && nat_le (sum_by (
 abbrev pub or_absent : Option Bool → Bool
 or_absent None = true
 or_absent (Some b) = b
+
+-- 13: a function declaration has a name
+abbrev pub has_name : Option Func → Bool
+has_name None = false
+has_name (Some f) = is_some f.name
 
 module _ (functions : List Func) where
   abbrev pub is_declarator : Declarator → Bool

@@ -10,6 +10,7 @@ ghost use Rattle.js_grammar.specs.OperatorCases.{OperatorCases};
 ghost use Rattle.js_grammar.specs.RefusalCases.{RefusalCases};
 ghost use Rattle.js_grammar.specs.ReadableCases.{ReadableCases};
 ghost use Rattle.js_grammar.specs.ReadableNameCases.{ReadableNameCases};
+ghost use Rattle.js_grammar.specs.ReadablePartCases.{ReadablePartCases};
 ghost use Rattle.js_grammar.specs.TreeCases.{TreeCases};
 
 /// Cases of reading, worked out by hand: trees with their places, what is read, what is refused and where, how operators
@@ -28,6 +29,7 @@ pub fn reading_cases()
 pub fn readable_cases()
     ensures trees { ReadableCases }
     ensures names { ReadableNameCases }
+    ensures parts { ReadablePartCases }
 {}
 
 /// Laws of the grammar, for every text: the productions tied together are those of the tied ones, a repeated rule is used
