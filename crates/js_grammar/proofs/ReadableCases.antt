@@ -1,5 +1,5 @@
 -- The cases of trees that reading can give compute, each fold opened form by form.
-use Rattle.std.proofs.Common.{◌≡◌, ap, true, List, Bool}
+use Rattle.std.proofs.Common.{◌≡◌, ap, refl, true, List, Bool}
 use Rattle.std.specs.Char.Utf16.{utf16_chars}
 use Rattle.std.proofs.Math.Bool.{or-true, and-false}
 use Rattle.js_tree.specs.declared.expression.Expr.{Expr}
@@ -138,6 +138,8 @@ readable_cases = record {
   parts = part_cases;
   jumps = jump_cases;
   assignments = assignment_cases;
+  compound = refl;
+  not_compound = refl;
   targets = target_cases;
   deletes = delete_cases;
   literals = literal_cases;

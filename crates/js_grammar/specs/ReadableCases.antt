@@ -1,6 +1,7 @@
 -- Cases of trees that reading can give, worked out by hand: each rule has some that keep it and some that just break it,
 -- each tree behind its text. Names are of `_` and `$`. No place decides anything here: each is 0.
 use Rattle.std.specs.Prelude.{◌≡◌, Bool, true, false, pos, neg_ℤ, codes, List, [], ◌∷◌, map, Some, None}
+use Rattle.js_value.specs.declared.operator.BinaryOp.{BinaryOp}
 use Rattle.js_value.specs.declared.operator.BinaryOp.TheVariants as binary
 use Rattle.js_value.specs.declared.operator.UnaryOp.TheVariants as unary
 use Rattle.js_value.specs.declared.primitive.Kind.TheVariants as kind
@@ -19,6 +20,7 @@ use Rattle.js_tree.specs.declared.statement.StmtForm.TheVariants as s
 use Rattle.js_tree.specs.NameCases.{n, eval, declaring, block, named}
 use Rattle.js_tree.specs.Refusals.{place}
 use Rattle.js_tree.specs.Trees.{expr, stmt, declarator, clause, handler, final, script, one}
+use Rattle.js_grammar.specs.ReadableExpressions.{is_compound}
 use Rattle.js_grammar.specs.Readable.{is_readable}
 
 abbrev pub Rows : Type 0
@@ -117,6 +119,17 @@ assignment_rows =
     ∷ (only (e.Assign low (Some binary.In) number), false)
     ∷ []
 
+-- 11.13.2: the operators that an assignment can be compounded with, and the others
+abbrev pub compound_operators : List BinaryOp
+compound_operators =
+    binary.Mul ∷ binary.Div ∷ binary.Rem ∷ binary.Add ∷ binary.Sub ∷ binary.Shl ∷ binary.Sar ∷ binary.Shr ∷ binary.BitAnd
+    ∷ binary.BitXor ∷ binary.BitOr ∷ []
+
+abbrev pub other_operators : List BinaryOp
+other_operators =
+    binary.Less ∷ binary.Greater ∷ binary.LessEqual ∷ binary.GreaterEqual ∷ binary.Equal ∷ binary.NotEqual ∷ binary.Same
+    ∷ binary.NotSame ∷ binary.In ∷ binary.InstanceOf ∷ []
+
 -- 11.3, 11.4.4, 12.6.4: targets
 abbrev pub target_rows : Rows
 target_rows =
@@ -178,6 +191,8 @@ pub record ReadableCases : Type 0 where
   pub parts : AreReadable part_rows
   pub jumps : AreReadable jump_rows
   pub assignments : AreReadable assignment_rows
+  pub compound : map (λ op. is_compound (Some op)) compound_operators ≡ map (λ _. true) compound_operators
+  pub not_compound : map (λ op. is_compound (Some op)) other_operators ≡ map (λ _. false) other_operators
   pub targets : AreReadable target_rows
   pub deletes : AreReadable delete_rows
   pub literals : AreReadable literal_rows
