@@ -24,7 +24,7 @@ use Rattle.js_grammar.specs.ReadableExpressions.{ReadExpr, of_form, of_field, in
 use Rattle.js_grammar.specs.Readable.{are_parts_readable, are_inputs_alike, is_readable}
 use Rattle.js_tree.specs.declared.statement.Script.{Script}
 use Rattle.js_grammar.specs.ReadableCases.{ReadableCases, AreReadable, if_rows, loop_rows, part_rows, jump_rows, assignment_rows, target_rows, delete_rows, literal_rows, form_rows}
-use Rattle.js_grammar.specs.ReadableNameCases.{ReadableNameCases, name_rows, declared_rows, key_rows, order_rows, inner_rows, accessor_rows, repeated_rows, declaration_rows, strict_rows}
+use Rattle.js_grammar.specs.ReadableNameCases.{ReadableNameCases, name_rows, declared_rows, key_rows, setter_key_rows, order_rows, inner_rows, accessor_rows, repeated_rows, declaration_rows, strict_rows}
 
 -- `$` and `_` are characters of names, whatever Unicode says of them
 
@@ -107,6 +107,10 @@ key_cases : AreReadable key_rows
 unfolding readable_opened
 key_cases = simp (dollar_starts, low_line_starts, dollar_goes_on, low_line_goes_on, and-false, fold_out-Expr, fold_out-ExprForm, fold_out-Field, fold_out-Stmt, stmt_form_at, fold_out-StmtForm, expr_first, form_first, outs-Name, outs-ObjectLit, outs-Value, outs-Getter, outs-Member, outs-Eval)
 
+setter_key_cases : AreReadable setter_key_rows
+unfolding readable_opened
+setter_key_cases = simp (low_line_starts, low_line_goes_on, fold_out-Expr, fold_out-ExprForm, fold_out-Field, fold_out-Stmt, stmt_form_at, fold_out-StmtForm, expr_first, form_first, outs-ObjectLit, outs-Setter, outs-Eval)
+
 order_cases : AreReadable order_rows
 unfolding readable_opened
 order_cases = simp (fold_out-Expr, fold_out-ExprForm, fold_out-Stmt, stmt_form_at, fold_out-StmtForm, expr_first, form_first, outs-Func, outs-Eval)
@@ -151,6 +155,7 @@ readable_name_cases = record {
   names = name_cases;
   declared = declared_cases;
   keys = key_cases;
+  setter_keys = setter_key_cases;
   order = order_cases;
   inner = inner_cases;
   accessors = accessor_cases;

@@ -76,6 +76,12 @@ key_rows =
     ∷ (script (object (field.Getter (place 0) (codes "__proto__") (no 0) ∷ []) ∷ []) (nameless [] ∷ []), false)
     ∷ []
 
+abbrev pub setter_key_rows : Rows
+setter_key_rows =
+    (script (object (field.Setter (place 0) (codes "if") (no 0) ∷ []) ∷ []) (func 0 None (declared 0 (codes "_") ∷ []) [] ∷ []), true)
+    ∷ (script (object (field.Setter (place 0) (codes "__proto__") (no 0) ∷ []) ∷ []) (func 0 None (declared 0 (codes "_") ∷ []) [] ∷ []), false)
+    ∷ []
+
 -- ---- functions (13)
 
 -- each function is named once, in source order
@@ -165,6 +171,7 @@ pub record ReadableNameCases : Type 0 where
   pub names : AreReadable name_rows
   pub declared : AreReadable declared_rows
   pub keys : AreReadable key_rows
+  pub setter_keys : AreReadable setter_key_rows
   pub order : AreReadable order_rows
   pub inner : AreReadable inner_rows
   pub accessors : AreReadable accessor_rows
