@@ -12,3 +12,4 @@ pub mod Tied
 pub mod Unrolled
 pub mod MoreHeights
 pub mod Laws
+pub mod Climbing

@@ -23,7 +23,7 @@ use Rattle.js_grammar.proofs.AlikeStatements.{more_declarators_too, more_stateme
 use Rattle.js_grammar.proofs.Tied.{exact, same_answer, grammar_too, tied_pick, the_assignment, the_unary, the_member, the_statement, the_element}
 
 -- a rule that does alike in every setting
-unrolled : {A B : Type 0} (rule : (A → Reading B) → A → Reading B) → ((w : Setting) → RuleAlike w 0 rule rule) → Unrolls rule
+pub unrolled : {A B : Type 0} (rule : (A → Reading B) → A → Reading B) → ((w : Setting) → RuleAlike w 0 rule rule) → Unrolls rule
 unrolled rule h a s =
     let w = exact s.tokens s.limit s.allows_expr s.allows_stmt in
     let c = (unrolls w rule (h w) a).at 0 s (omega arith) (record { left = refl; within = omega arith; limit = refl; exprs = refl; stmts = refl }) in

@@ -28,3 +28,4 @@ pub mod ReadableCases
 pub mod ReadableNameCases
 pub mod ReadablePartCases
 pub mod Laws
+pub mod Climbing
