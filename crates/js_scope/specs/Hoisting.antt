@@ -1,0 +1,34 @@
+-- The names that `var` declares, each once, as they are gathered.
+use Rattle.std.specs.Prelude.{ℕ, List, [], ◌∷◌, ◌++◌, if◌then◌else◌, map, fold}
+use Rattle.js_tree.specs.declared.statement.Case.{Case, fold-Case}
+use Rattle.js_tree.specs.declared.statement.Catch.{Catch, fold-Catch}
+use Rattle.js_tree.specs.declared.statement.Finally.{Finally, fold-Finally}
+use Rattle.js_tree.specs.declared.statement.Stmt.{Stmt}
+use Rattle.js_tree.specs.declared.statement.StmtForm.{StmtForm, fold-StmtForm}
+use Rattle.js_tree.specs.Mentions.{Names, joined, form_vars, vars_in}
+use Rattle.js_tree.specs.Simple.{is_among}
+
+abbrev pub in_form : StmtForm → Names
+in_form = fold-StmtForm Names Names Names Names Names form_vars (λ c. joined c.body) (λ c. joined c.body) (λ f. joined f.body) (λ s. s.form)
+
+abbrev pub in_case : Case → Names
+in_case = fold-Case Names Names Names Names Names form_vars (λ c. joined c.body) (λ c. joined c.body) (λ f. joined f.body) (λ s. s.form)
+
+abbrev pub in_catch : Catch → Names
+in_catch = fold-Catch Names Names Names Names Names form_vars (λ c. joined c.body) (λ c. joined c.body) (λ f. joined f.body) (λ s. s.form)
+
+abbrev pub in_finally : Finally → Names
+in_finally = fold-Finally Names Names Names Names Names form_vars (λ c. joined c.body) (λ c. joined c.body) (λ f. joined f.body) (λ s. s.form)
+
+abbrev pub in_stmts : List Stmt → Names
+in_stmts all = joined (map vars_in all)
+
+abbrev pub in_cases : List Case → Names
+in_cases all = joined (map in_case all)
+
+-- a name behind the others, unless it is among them
+abbrev pub add : Names → List ℕ → Names
+add names name = if is_among names name then names else (names ++ name ∷ [])
+
+abbrev pub add_all : Names → Names → Names
+add_all names more = fold add names more

@@ -1,0 +1,6 @@
+//! Scopes: which names code declares, which it only mentions, and what a script may not mention.
+#![tactic(auto)]
+
+mod hoisting;
+mod jumps;
+mod names;
