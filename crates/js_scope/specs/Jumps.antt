@@ -47,3 +47,7 @@ at_place least at = lesser least (Syntax at)
 -- the least fault, where there is a jump at each of these places too
 abbrev pub with_jumps : Option ReadRefused → Places → Option ReadRefused
 with_jumps least places = fold at_place least places
+
+-- the least fault, where there are these too
+abbrev pub with_faults : Option ReadRefused → List ReadRefused → Option ReadRefused
+with_faults least faults = fold lesser least faults

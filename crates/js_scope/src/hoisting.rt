@@ -1,12 +1,14 @@
 //! The names that code declares as a whole, wherever in it their declarations stand (10.5).
 
-ghost use Rattle.std.specs.Prelude.{◌≡◌, OnOk};
+ghost use Rattle.std.specs.Prelude.{◌≡◌, OnOk, IfOk};
+ghost use Rattle.std.specs.Option.{option_to_list};
+ghost use Rattle.js_tree.specs.declared.statement.StmtForm.{out-StmtForm};
 ghost use Rattle.js_tree.specs.Mentions as names;
 ghost use Rattle.js_scope.specs.Hoisting as spec;
 
 use crate::names::add;
-use js_tree::{Case, Catch, Declarator, Finally, ForStart, ForTarget, Stmt, StmtForm};
-use js_value::{NoMemory, Seq, Text};
+use js_tree::{Case, Catch, Declarator, Finally, ForStart, ForTarget, Script, Stmt, StmtForm};
+use js_value::{FuncNo, NoMemory, Seq, Text};
 use std::alloc::Global;
 
 fn declarators(alloc: Global, all: &[Declarator], vars: &mut Seq<Text>) -> Result<(), NoMemory>
@@ -131,5 +133,68 @@ fn in_form(form: &StmtForm, alloc: Global, vars: &mut Seq<Text>) -> Result<(), N
         | StmtForm::Break
         | StmtForm::Return(_)
         | StmtForm::Throw(_) => Ok(()),
+    }
+}
+
+/// The names that global code or a function's body declares as a whole (10.5).
+#[derive(Debug, Drop)]
+pub struct HoistedNames {
+    /// The function declarations among its elements, in order: of two with one name the later one counts.
+    pub functions: Seq<FuncNo>,
+    /// The names that `var` declares in it, each once, in the order in which they come first.
+    pub vars: Seq<Text>,
+}
+
+/// The function that a statement declares.
+fn declared_function(s: &Stmt) -> Option<FuncNo>
+    ensures { option_to_list result ≡ names.declares (out-StmtForm s.now.form) }
+{
+    match &*s.form {
+        StmtForm::FuncDecl(f) => Some(*f),
+        _ => None,
+    }
+}
+
+#[tactic(auto, unfolding(js_tree::specs::Mentions::hoisted_functions))]
+pub fn functions_in(alloc: Global, body: &[Stmt]) -> Result<Seq<FuncNo>, NoMemory>
+    ensures { IfOk result (λ fs. fs ≡ names.hoisted_functions body.now) }
+{
+    let mut functions = Seq::new(alloc);
+    for s in body {
+        if let Some(f) = declared_function(s) {
+            functions.push(f)?;
+        }
+    }
+    Ok(functions)
+}
+
+#[tactic(auto, using(crate::proofs::Gathered::gathered))]
+pub fn vars_of(alloc: Global, body: &[Stmt]) -> Result<Seq<Text>, NoMemory>
+    ensures { IfOk result (λ vars. vars ≡ names.hoisted_vars body.now) }
+{
+    let mut vars = Seq::new(alloc);
+    in_stmts(body, alloc, &mut vars)?;
+    Ok(vars)
+}
+
+fn of_body(alloc: Global, body: &[Stmt]) -> Result<HoistedNames, NoMemory>
+    ensures { IfOk result (λ h. spec.HoistsBody body.now h) }
+{
+    Ok(HoistedNames {
+        functions: functions_in(alloc, body)?,
+        vars: vars_of(alloc, body)?,
+    })
+}
+
+/// The names that the global code declares, or the body of a function. A number past the functions has an empty body.
+pub fn hoisted(alloc: Global, script: &Script, f: Option<FuncNo>) -> Result<HoistedNames, NoMemory>
+    ensures { IfOk result (λ h. spec.HoistsBody (spec.body_of script.now f) h) }
+{
+    let Some(f) = f else {
+        return of_body(alloc, script.body.as_slice());
+    };
+    match script.funcs.as_slice().get(f.0) {
+        None => of_body(alloc, &[]),
+        Some(function) => of_body(alloc, function.body.as_slice()),
     }
 }
