@@ -1,3 +1,5 @@
 pub mod Leaving
 pub mod Gathered
 pub mod Faults
+pub mod Repeated
+pub mod Walks

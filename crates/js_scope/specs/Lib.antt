@@ -1,2 +1,4 @@
 pub mod Jumps
 pub mod Hoisting
+pub mod Mentioning
+pub mod Properties

@@ -4,6 +4,9 @@
 mod early;
 mod hoisting;
 mod jumps;
+mod mention;
 mod names;
+mod properties;
+mod walk;
 
 pub use hoisting::{HoistedNames, hoisted};
