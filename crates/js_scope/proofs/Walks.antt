@@ -13,12 +13,23 @@ use Rattle.js_tree.specs.declared.expression.ExprForm.{ExprForm, out-ExprForm}
 use Rattle.js_tree.specs.declared.expression.ExprForm.TheOpen.{ExprForm-F, Field-F}
 use Rattle.js_tree.specs.declared.expression.ExprForm.TheFolds.{map-ExprForm, map-Field, fold_out-Field}
 use Rattle.js_tree.specs.declared.expression.ExprForm.TheVariants as e
+use Rattle.js_tree.specs.declared.statement.Case.{Case}
+use Rattle.js_tree.specs.declared.statement.Catch.{Catch}
+use Rattle.js_tree.specs.declared.statement.Finally.{Finally}
+use Rattle.js_tree.specs.declared.statement.Stmt.{Stmt}
+use Rattle.js_tree.specs.declared.statement.StmtForm.{StmtForm, out-StmtForm}
+use Rattle.js_tree.specs.declared.statement.StmtForm.TheOpen.{StmtForm-F}
+use Rattle.js_tree.specs.declared.statement.StmtForm.TheFolds.{map-StmtForm, fold_out-StmtForm}
+use Rattle.js_tree.specs.declared.statement.StmtForm.TheVariants as s
 use Rattle.js_tree.proofs.Folds.{fold-layer}
 use Rattle.js_tree.specs.Mentions as M
 use Rattle.js_tree.specs.Mentions.{Mention, Mentioned, FieldMentions, Property}
 use Rattle.js_scope.specs.declared.walk.Walk.{Walk}
-use Rattle.js_scope.specs.Mentioning.{expression, declaration, in_form, in_field, in_fields, in_expr, in_exprs, in_maybe}
+use Rattle.js_scope.specs.Mentioning.{expression, declaration, in_form, in_field, in_fields, in_expr, in_exprs, in_maybe, in_stmt_form, in_case, in_catch, in_finally, in_handler, in_last, in_stmt, in_stmts}
 use Rattle.js_scope.specs.Properties.{property, property_in}
+
+abbrev Ms : Type 0
+Ms = List Mention
 
 flat_map-along : {A B C : Type 0} (p : B → List C) (v : A → B) (q : A → List C) → ((x : A) → p (v x) ≡ q x) → (xs : List A) → flat_map p (map v xs) ≡ flat_map q xs
 flat_map-along p v q s [] = refl
@@ -86,6 +97,19 @@ module _ (w : Walk) where
       opened _ _ at (e.outs-ObjectLit fields)
       ∙ ap (λ ps. in_fields w fields ++ M.repeated [] ps) (map-along (λ (m : FieldMentions). m.0) (in_field w) property field_is fields)
 
+  -- a `try` with a handler
+  tried : (form : StmtForm) (layer : StmtForm-F StmtForm Case Catch Finally Stmt) → out-StmtForm form ≡ layer
+      → in_stmt_form w form ≡ M.stmt_form_mentions (expression w) (declaration w) (map-StmtForm StmtForm Case Catch Finally Stmt Ms Ms Ms Ms Ms (in_stmt_form w) (in_case w) (in_catch w) (in_finally w) (in_stmt w) layer)
+  tried form layer h =
+      fold_out-StmtForm Ms Ms Ms Ms Ms (M.stmt_form_mentions (expression w) (declaration w)) (λ c. in_maybe w c.test ++ M.joined c.body) (λ c. M.unbound (c.name ∷ []) (M.joined c.body)) (λ f. M.joined f.body) (λ s. s.form) form
+      ∙ ap (λ l. M.stmt_form_mentions (expression w) (declaration w) (map-StmtForm StmtForm Case Catch Finally Stmt Ms Ms Ms Ms Ms (in_stmt_form w) (in_case w) (in_catch w) (in_finally w) (in_stmt w) l)) h
+
+  pub form-Try : (body : List Stmt) (handler : Option Catch) (last : Option Finally)
+      → in_stmt_form w (s.Try body handler last) ≡ in_stmts w body ++ in_handler w handler ++ in_last w last
+  form-Try body None None = tried _ _ (s.outs-Try body None None)
+  form-Try body (Some handler) None = tried _ _ (s.outs-Try body (Some handler) None)
+  form-Try body None (Some last) = tried _ _ (s.outs-Try body None (Some last))
+  form-Try body (Some handler) (Some last) = tried _ _ (s.outs-Try body (Some handler) (Some last))
 
 -- ---- one part behind another
 

@@ -97,6 +97,14 @@ module _ (w : Walk) where
   in_finally = fold-Finally (List M.Mention) (List M.Mention) (List M.Mention) (List M.Mention) (List M.Mention) (M.stmt_form_mentions expression declaration)
       (λ c. in_maybe c.test ++ joined c.body) (λ c. M.unbound (c.name ∷ []) (joined c.body)) (λ f. joined f.body) (λ s. s.form)
 
+  abbrev pub in_handler : Option Catch → List M.Mention
+  in_handler None = []
+  in_handler (Some handler) = in_catch handler
+
+  abbrev pub in_last : Option Finally → List M.Mention
+  in_last None = []
+  in_last (Some last) = in_finally last
+
   abbrev pub in_stmt : Stmt → List M.Mention
   in_stmt = M.stmt_mentions expression declaration
 
@@ -114,3 +122,6 @@ module _ (w : Walk) where
 
   abbrev pub in_for_target : ForTarget → List M.Mention
   in_for_target = M.target_mentions expression declaration
+
+  abbrev pub in_header : ForStart → Option Expr → Option Expr → List M.Mention
+  in_header from test step = in_start from ++ in_maybe test ++ in_maybe step

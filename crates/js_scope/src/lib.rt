@@ -7,6 +7,7 @@ mod jumps;
 mod mention;
 mod names;
 mod properties;
+mod statements;
 mod walk;
 
 pub use hoisting::{HoistedNames, hoisted};

@@ -1,4 +1,4 @@
-//! What expressions and statements mention, in source order.
+//! What expressions mention, in source order.
 
 ghost use Rattle.std.specs.Prelude.{◌≡◌, ◌++◌, map, OnOk};
 ghost use Rattle.std.specs.List.{flat_map};
@@ -6,15 +6,12 @@ ghost use Rattle.std.specs.Option.{option_map};
 ghost use Rattle.js_tree.specs.Mentions as tree;
 ghost use Rattle.js_scope.specs.Mentioning as spec;
 
-use crate::mention::{Inside, Mention, push, push_owned, push_unbound};
+use crate::mention::{Inside, Mention, push, push_owned};
 use crate::properties::push_repeats;
-use js_tree::{
-    Case, Catch, Declarator, Expr, ExprForm, Field, Finally, ForStart, ForTarget, Stmt, StmtForm,
-};
+use js_tree::{Expr, ExprForm, Field};
 use js_value::{FuncNo, NoMemory, Place};
 use std::alloc::Global;
 use std::collections::VecDeque;
-use std::slice::from_ref;
 
 /// A walk over code, with what is known of the functions that it names by their numbers.
 #[derive(Clone, Copy)]
@@ -48,7 +45,7 @@ impl<'a> Walk<'a, '_> {
 
     /// What a function declaration mentions (13).
     #[tactic(auto, unfolding(crate::specs::Mentioning::as_declaration))]
-    fn in_declaration(&self, f: FuncNo, mentions: &mut Vec<Mention<'a>>) -> Result<(), NoMemory>
+    pub fn in_declaration(&self, f: FuncNo, mentions: &mut Vec<Mention<'a>>) -> Result<(), NoMemory>
         ensures { OnOk result (spec.told mentions.new.items ≡ spec.told mentions.old.items ++ spec.declaration self.now f) }
     {
         match self.inside(f) {
@@ -111,7 +108,7 @@ impl<'a> Walk<'a, '_> {
     }
 
     #[cycle(expr_mentions)]
-    fn in_expr(&self, e: &'a Expr, mentions: &mut Vec<Mention<'a>>) -> Result<(), NoMemory>
+    pub fn in_expr(&self, e: &'a Expr, mentions: &mut Vec<Mention<'a>>) -> Result<(), NoMemory>
         ensures { OnOk result (spec.told mentions.new.items ≡ spec.told mentions.old.items ++ (spec.in_expr self.now e.now).0) }
     {
         self.in_form(&e.form, e.at, mentions)
@@ -119,7 +116,7 @@ impl<'a> Walk<'a, '_> {
 
     /// What an expression mentions where it is assigned to.
     #[cycle(expr_mentions)]
-    fn in_target(&self, e: &'a Expr, mentions: &mut Vec<Mention<'a>>) -> Result<(), NoMemory>
+    pub fn in_target(&self, e: &'a Expr, mentions: &mut Vec<Mention<'a>>) -> Result<(), NoMemory>
         ensures { OnOk result (spec.told mentions.new.items ≡ spec.told mentions.old.items ++ (spec.in_expr self.now e.now).1) }
     {
         self.in_target_form(&e.form, e.at, mentions)
