@@ -1,13 +1,19 @@
 -- The faults of jumps are kept place by place.
-use Rattle.std.proofs.Common.{◌≡◌, ◌++◌, List, [], ◌∷◌, refl, ap, sym, ◌∙◌, map}
-use Rattle.std.specs.Prelude.{Option, fold}
-use Rattle.std.specs.List.{flat_map}
+use Rattle.std.proofs.Common.{◌≡◌, ◌++◌, ℕ, List, [], ◌∷◌, refl, ap, sym, ◌∙◌, map}
+use Rattle.std.specs.Prelude.{Option, fold, Bool, ◌||◌, if◌then◌else◌}
+use Rattle.std.specs.List.{flat_map, list_any}
 use Rattle.std.proofs.lemmas.Grind.{flat_map-append, fold-append}
 use Rattle.std.proofs.lemmas.List.Folds.{flat_map-map}
 use Rattle.js_value.specs.declared.place.Place.{Place}
 use Rattle.js_tree.specs.declared.refusal.ReadRefused.{ReadRefused}
 use Rattle.js_tree.specs.declared.statement.Stmt.{Stmt}
-use Rattle.js_tree.specs.Early.{Places, syntax_all, places_in, loose_jumps, lesser, returns}
+use Rattle.js_tree.specs.Early.{Places, syntax_all, places_in, loose_jumps, lesser, returns, differs, mention_fault}
+use Rattle.js_value.specs.declared.primitive.Kind.{Kind}
+use Rattle.js_tree.specs.declared.refusal.Feature.TheVariants as feature
+use Rattle.js_tree.specs.declared.refusal.ReadRefused.TheVariants.{Unsupported}
+use Rattle.js_tree.specs.Mentions.{Takes}
+use Rattle.js_scope.specs.declared.mention.Mention as D
+use Rattle.js_scope.specs.Mentioning.{mention_of, told}
 use Rattle.js_scope.specs.declared.jumps.Jump.{Jump}
 use Rattle.js_scope.specs.declared.jumps.Jump.TheVariants as jump
 use Rattle.js_scope.specs.Jumps.{leaving, in_stmt, in_stmts, with_jumps, with_faults, at_place}
@@ -31,3 +37,11 @@ pub returns_are : (least : Option ReadRefused) (body : List Stmt) → with_fault
 returns_are least body = by_place least (places_in returns body) ∙ ap (λ ps. with_jumps least ps) (sym (places_are jump.Return body))
 
 pub ruleset faults = (loose_are, returns_are, fold-append, flat_map-append)
+
+list_any-map : {A B : Type 0} (test : B → Bool) (v : A → B) (xs : List A) → list_any test (map v xs) ≡ list_any (λ x. test (v x)) xs
+list_any-map test v [] = refl
+list_any-map test v (x ∷ xs) = ap (λ b. test (v x) || b) (list_any-map test v xs)
+
+pub retyped : (all : List D.Mention) (at : Place) (k : Kind) (name : List ℕ) (b : Bool) → b ≡ list_any (λ m. differs at k name (mention_of m)) all
+    → mention_fault (told all) (Takes at k name) ≡ (if b then Unsupported at feature.AbstractType ∷ [] else [])
+retyped all at k name b h = ap (λ c. if c then Unsupported at feature.AbstractType ∷ [] else []) (list_any-map (differs at k name) mention_of all ∙ sym h)

@@ -3,3 +3,5 @@ pub mod Gathered
 pub mod Faults
 pub mod Repeated
 pub mod Walks
+pub mod Insides
+pub mod Whole

@@ -2,3 +2,5 @@ pub mod Jumps
 pub mod Hoisting
 pub mod Mentioning
 pub mod Properties
+pub mod Functions
+pub mod Checking

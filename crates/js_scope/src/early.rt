@@ -1,11 +1,21 @@
 //! The early checks (16): what is refused in a script that was read.
 
-ghost use Rattle.std.specs.Prelude.{◌≡◌, None};
+ghost use Rattle.std.specs.Prelude.{◌≡◌, None, IfOk};
+ghost use Rattle.std.specs.List.{list_any};
+ghost use Rattle.std.specs.Option.{option_to_list};
 ghost use Rattle.js_tree.specs.Early as early;
+ghost use Rattle.js_tree.specs.Mentions as tree;
+ghost use Rattle.js_scope.specs.Checking.{Tells};
 ghost use Rattle.js_scope.specs.Jumps as spec;
+ghost use Rattle.js_scope.specs.Mentioning as mentioning;
 
-use crate::jumps::{Jump, in_stmts};
-use js_tree::{ReadRefused, Script, Stmt};
+use crate::functions::insides;
+use crate::jumps::{Jump, in_stmts, lesser};
+use crate::mention::Mention;
+use crate::walk::Walk;
+use js_tree::{Feature, ReadRefused, Script, Stmt};
+use js_value::{Kind, NoMemory, Place, Text};
+use std::alloc::Global;
 
 #[tactic(auto, using(crate::proofs::Faults::faults))]
 fn loose_jumps(body: &[Stmt], least: Option<ReadRefused>) -> Option<ReadRefused>
@@ -16,7 +26,7 @@ fn loose_jumps(body: &[Stmt], least: Option<ReadRefused>) -> Option<ReadRefused>
 
 /// The least fault of jumps: `return` outside a function, `break` outside loop and `switch`, `continue` outside a loop.
 #[tactic(auto, using(crate::proofs::Faults::faults))]
-pub fn jump_fault(script: &Script) -> Option<ReadRefused>
+fn jump_fault(script: &Script) -> Option<ReadRefused>
     ensures { result ≡ spec.with_faults None (early.jump_faults script.now) }
 {
     let body = script.body.as_slice();
@@ -25,4 +35,87 @@ pub fn jump_fault(script: &Script) -> Option<ReadRefused>
         least = loose_jumps(f.body.as_slice(), least);
     }
     least
+}
+
+/// Whether a mention is the same input with another type at an earlier place.
+fn differs(at: Place, kind: Kind, name: &Text, mention: &Mention) -> bool
+    ensures { result ≡ early.differs at kind name.now (mentioning.mention_of mention.now) }
+{
+    match mention {
+        Mention::Takes(before, other, text) => {
+            before.0 < at.0 && *name == **text && kind != *other
+        }
+        _ => false,
+    }
+}
+
+fn is_retyped(all: &[Mention], at: Place, kind: Kind, name: &Text) -> bool
+    ensures { result ≡ list_any (λ m. early.differs at kind name.now (mentioning.mention_of m)) all.now }
+{
+    all.iter().any(|mention| differs(at, kind, name, mention))
+}
+
+/// What is refused of a mention among all mentions.
+fn fault_of(all: &[Mention], mention: &Mention) -> Option<ReadRefused>
+    ensures { option_to_list result ≡ early.mention_fault (mentioning.told all.now) (mentioning.mention_of mention.now) }
+{
+    match mention {
+        Mention::Repeats(at) => Some(ReadRefused::Syntax(*at)),
+        Mention::AssignsOwn(at) => Some(ReadRefused::Unsupported(*at, Feature::OwnName)),
+        Mention::Takes(at, kind, name) => {
+            if is_retyped(all, *at, *kind, name) {
+                Some(ReadRefused::Unsupported(*at, Feature::AbstractType))
+            } else {
+                None
+            }
+        }
+        Mention::Reads(_, _) | Mention::Assigns(_, _) => None,
+    }
+}
+
+/// The least fault, where those of these mentions are some too.
+fn fault_among(all: &[Mention], least: Option<ReadRefused>) -> Option<ReadRefused>
+    ensures { result ≡ spec.with_faults least (early.mention_faults (mentioning.told all.now)) }
+{
+    let mut least = least;
+    for mention in all {
+        if let Some(fault) = fault_of(all, mention) {
+            least = lesser(least, fault);
+        }
+    }
+    least
+}
+
+/// The least fault, where those of what a script mentions are some too.
+#[tactic(auto, using(crate::proofs::Whole::whole))]
+fn mention_fault(
+    alloc: Global,
+    script: &Script,
+    least: Option<ReadRefused>,
+) -> Result<Option<ReadRefused>, NoMemory>
+    ensures { IfOk result (λ fault. fault ≡ spec.with_faults least (early.mention_faults (tree.mentions script.now))) }
+{
+    let insides = insides(alloc, script.funcs.as_slice())?;
+    let walk = Walk {
+        alloc,
+        first: 0,
+        insides: &insides,
+    };
+    let mut mentions = Vec::new(alloc);
+    walk.in_stmts(script.body.as_slice(), &mut mentions)?;
+    Ok(fault_among(mentions.as_slice(), least))
+}
+
+/// The early checks (16) of a script that was read, of which the first fault in the text answers: `return` outside a
+/// function (12.9), `break` and `continue` outside what they leave (12.7, 12.8), and a property given twice as a value and
+/// an accessor, or by two getters or two setters (11.1.5), are no syntax. An assignment to a function expression's own
+/// name (13), and an input that has another type at an earlier place, aren't supported.
+#[tactic(auto, using(crate::proofs::Whole::checks))]
+pub fn check(alloc: Global, script: &Script) -> Result<(), ReadRefused>
+    ensures { Tells (early.early_fault script.now) result }
+{
+    match mention_fault(alloc, script, jump_fault(script))? {
+        None => Ok(()),
+        Some(fault) => Err(fault),
+    }
 }

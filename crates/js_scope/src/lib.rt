@@ -2,6 +2,8 @@
 #![tactic(auto)]
 
 mod early;
+mod free;
+mod functions;
 mod hoisting;
 mod jumps;
 mod mention;
@@ -10,4 +12,6 @@ mod properties;
 mod statements;
 mod walk;
 
+pub use early::check;
+pub use free::free_names;
 pub use hoisting::{HoistedNames, hoisted};

@@ -23,7 +23,8 @@ pub struct Walk<'a, 'i> {
 }
 
 impl<'a> Walk<'a, '_> {
-    fn inside(&self, f: FuncNo) -> Option<&Inside<'a>>
+    /// What is known of a function.
+    pub fn inside(&self, f: FuncNo) -> Option<&Inside<'a>>
         ensures { tree.none_inside (option_map (λ i. spec.inside_of i.now) result) ≡ tree.nth self.now.first (spec.known self.now) f }
     {
         if f.0 < self.first {
