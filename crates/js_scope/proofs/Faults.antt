@@ -1,13 +1,13 @@
 -- The faults of jumps are kept place by place.
 use Rattle.std.proofs.Common.{◌≡◌, ◌++◌, ℕ, List, [], ◌∷◌, refl, ap, sym, ◌∙◌, map}
-use Rattle.std.specs.Prelude.{Option, fold, Bool, ◌||◌, if◌then◌else◌}
-use Rattle.std.specs.List.{flat_map, list_any}
+use Rattle.std.specs.Prelude.{Option, Bool, ◌||◌, if◌then◌else◌}
+use Rattle.std.specs.List.{list_any}
 use Rattle.std.proofs.lemmas.Grind.{flat_map-append, fold-append}
 use Rattle.std.proofs.lemmas.List.Folds.{flat_map-map}
 use Rattle.js_value.specs.declared.place.Place.{Place}
 use Rattle.js_tree.specs.declared.refusal.ReadRefused.{ReadRefused}
 use Rattle.js_tree.specs.declared.statement.Stmt.{Stmt}
-use Rattle.js_tree.specs.Early.{Places, syntax_all, places_in, loose_jumps, lesser, returns, differs, mention_fault}
+use Rattle.js_tree.specs.Early.{Places, syntax_all, places_in, loose_jumps, returns, differs, mention_fault}
 use Rattle.js_value.specs.declared.primitive.Kind.{Kind}
 use Rattle.js_tree.specs.declared.refusal.Feature.TheVariants as feature
 use Rattle.js_tree.specs.declared.refusal.ReadRefused.TheVariants.{Unsupported}

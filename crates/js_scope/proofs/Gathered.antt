@@ -1,13 +1,13 @@
 -- Names that are gathered each once are those of the list without repetitions.
-use Rattle.std.proofs.Common.{◌≡◌, ◌++◌, ℕ, List, [], ◌∷◌, refl, ap, sym, ◌∙◌, Bool, true, false, map, append_assoc}
-use Rattle.std.specs.Prelude.{fold, if◌then◌else◌, ◌||◌}
-use Rattle.std.specs.List.{flat_map, list_any}
+use Rattle.std.proofs.Common.{◌≡◌, ◌++◌, ℕ, List, [], ◌∷◌, refl, ap, sym, ◌∙◌, Bool, true, false, append_assoc}
+use Rattle.std.specs.Prelude.{◌||◌}
+use Rattle.std.specs.List.{flat_map}
 use Rattle.std.specs.Str.{bytes_eq}
 use Rattle.std.proofs.lemmas.List.Folds.{flat_map-map, list_any-append}
 use Rattle.js_tree.specs.declared.statement.Stmt.{Stmt}
 use Rattle.js_tree.specs.Mentions.{Names, distinct, distinct_behind, hoisted_vars, vars_in}
 use Rattle.js_tree.specs.Simple.{is_among}
-use Rattle.js_scope.specs.Hoisting.{add, add_all, in_stmts}
+use Rattle.js_scope.specs.Hoisting.{add_all, in_stmts}
 
 with_one : (a b : Bool) → (a || (b || false)) ≡ (b || a)
 with_one true true = refl

@@ -1,12 +1,11 @@
 -- Lists of parts, and what each form has that goes by the kind of the jump.
 use Rattle.std.proofs.Common.{◌≡◌, ◌++◌, refl, List}
 use Rattle.std.specs.Prelude.{Option}
-use Rattle.std.specs.List.{flat_map}
 use Rattle.std.proofs.lemmas.Grind.{flat_map-append, fold-append}
 use Rattle.js_value.specs.declared.place.Place.{Place}
 use Rattle.js_tree.specs.declared.expression.Expr.{Expr}
 use Rattle.js_tree.specs.declared.statement.StmtForm.TheOpen.{StmtForm-F}
-use Rattle.js_tree.specs.Early.{Places, At}
+use Rattle.js_tree.specs.Early.{Places}
 use Rattle.js_tree.specs.Mentions.{joined, of_none}
 use Rattle.js_scope.specs.declared.jumps.Jump.{Jump}
 use Rattle.js_scope.specs.declared.jumps.Jump.TheVariants as jump

@@ -38,7 +38,6 @@ behind before (q ∷ qs) p =
 repeated_more : (ps : List Property) (p : Property) → repeated [] (ps ++ p ∷ []) ≡ repeated [] ps ++ repeat ps p
 repeated_more ps p = behind [] ps p
 
-
 -- as a loop over the fields comes to them
 pub repeated_at : (fields : List Field) (i : ℕ) (d : Field) → i < length fields
     → repeated [] (map property (take (i + 1) fields)) ≡ repeated [] (map property (take i fields)) ++ repeat_of (take i fields) (get_or fields i d)

@@ -1,11 +1,9 @@
 -- What each form of expressions with several parts mentions.
-use Rattle.std.proofs.Common.{◌≡◌, ◌++◌, ℕ, List, [], ◌∷◌, refl, ap, sym, ◌∙◌, map, append_assoc, OnOk, Ok, Err}
+use Rattle.std.proofs.Common.{◌≡◌, ◌++◌, List, [], ◌∷◌, refl, ap, sym, ◌∙◌, map, append_assoc, OnOk, Ok, Err}
 use Rattle.std.specs.Prelude.{Option, Some, None, Result}
 use Rattle.std.specs.List.{flat_map}
-use Rattle.std.proofs.lemmas.List.Folds.{flat_map-map}
 use Rattle.js_value.specs.declared.operator.BinaryOp.{BinaryOp}
 use Rattle.js_value.specs.declared.place.Place.{Place}
-use Rattle.js_value.specs.declared.place.FuncNo.{FuncNo}
 use Rattle.js_tree.specs.declared.expression.Expr.{Expr}
 use Rattle.js_tree.specs.declared.expression.Field.{Field, out-Field}
 use Rattle.js_tree.specs.declared.expression.LogicOp.{LogicOp}

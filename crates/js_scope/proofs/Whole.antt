@@ -1,6 +1,6 @@
 -- What a script as a whole mentions, and its first fault.
-use Rattle.std.proofs.Common.{◌≡◌, ◌++◌, List, [], ◌∷◌, refl, ap, sym, ◌∙◌, map}
-use Rattle.std.specs.Prelude.{Option, Some, None}
+use Rattle.std.proofs.Common.{◌≡◌, List, [], sym, map}
+use Rattle.std.specs.Prelude.{None}
 use Rattle.std.proofs.lemmas.List.Folds.{flat_map-map}
 use Rattle.std.proofs.lemmas.Grind.{fold-append}
 use Rattle.js_tree.specs.Early.{jump_faults, mention_faults, early_fault, lesser}

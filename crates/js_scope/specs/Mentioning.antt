@@ -1,10 +1,10 @@
 -- What gathered mentions stand for, and what parts of trees mention by what is known of the functions.
-use Rattle.std.specs.Prelude.{◌≡◌, ◌≢◌, ℕ, ◌+◌, List, [], ◌∷◌, ◌++◌, map, Option, Some, None, Result, Ok, Err}
+use Rattle.std.specs.Prelude.{ℕ, List, [], ◌∷◌, ◌++◌, map, Option, Some, None}
 use Rattle.std.specs.List.{flat_map}
 use denote.Ref.{Bor}
 use Rattle.js_value.specs.declared.place.FuncNo.{FuncNo}
 use Rattle.js_value.specs.declared.place.Place.{Place}
-use Rattle.js_tree.specs.declared.expression.Expr.{Expr, fold-Expr}
+use Rattle.js_tree.specs.declared.expression.Expr.{Expr}
 use Rattle.js_tree.specs.declared.expression.ExprForm.{ExprForm, fold-ExprForm}
 use Rattle.js_tree.specs.declared.expression.Field.{Field, fold-Field}
 use Rattle.js_tree.specs.declared.statement.Case.{Case, fold-Case}
@@ -13,9 +13,7 @@ use Rattle.js_tree.specs.declared.statement.Declarator.{Declarator}
 use Rattle.js_tree.specs.declared.statement.Finally.{Finally, fold-Finally}
 use Rattle.js_tree.specs.declared.statement.ForStart.{ForStart}
 use Rattle.js_tree.specs.declared.statement.ForTarget.{ForTarget}
-use Rattle.js_tree.specs.declared.statement.Func.{Func}
-use Rattle.js_tree.specs.declared.statement.Name.{Name}
-use Rattle.js_tree.specs.declared.statement.Stmt.{Stmt, fold-Stmt}
+use Rattle.js_tree.specs.declared.statement.Stmt.{Stmt}
 use Rattle.js_tree.specs.declared.statement.StmtForm.{StmtForm, fold-StmtForm}
 use Rattle.js_tree.specs.Mentions as M
 use Rattle.js_tree.specs.Mentions.{Mentioned, FieldMentions, Inside, Names, joined, all_of}

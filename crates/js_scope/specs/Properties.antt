@@ -1,8 +1,7 @@
 -- The properties of an object literal, and which of them clash with earlier ones (11.1.5).
-use Rattle.std.specs.Prelude.{ℕ, ◌&&◌, Bool, if◌then◌else◌, List, [], ◌∷◌, map}
+use Rattle.std.specs.Prelude.{◌&&◌, Bool, if◌then◌else◌, List, [], ◌∷◌}
 use Rattle.std.specs.List.{list_any}
 use Rattle.std.specs.Str.{bytes_eq}
-use Rattle.js_value.specs.declared.place.Place.{Place}
 use Rattle.js_tree.specs.declared.expression.Field.{Field, out-Field}
 use Rattle.js_tree.specs.declared.expression.ExprForm.TheOpen.{Field-F}
 use Rattle.js_tree.specs.Mentions as M

@@ -85,12 +85,7 @@ fn push_functions(
 }
 
 /// The names that a function declares: its parameters, and those that its body hoists (10.5).
-fn declared(
-    alloc: Global,
-    f: &Func,
-    behind: &[Func],
-    first: usize,
-) -> Result<Seq<Text>, NoMemory>
+fn declared(alloc: Global, f: &Func, behind: &[Func], first: usize) -> Result<Seq<Text>, NoMemory>
     ensures { IfOk result (λ names. names ≡ functions.declared first behind.now f.now) }
 {
     let mut names = Seq::new(alloc);
@@ -137,10 +132,7 @@ fn from_number(all: &[Func], n: usize) -> &[Func]
 }
 
 /// The own names of a script's functions, and what they mention of names that they don't declare.
-pub fn insides<'a>(
-    alloc: Global,
-    all: &'a [Func],
-) -> Result<VecDeque<Inside<'a>>, NoMemory>
+pub fn insides<'a>(alloc: Global, all: &'a [Func]) -> Result<VecDeque<Inside<'a>>, NoMemory>
     ensures { IfOk result (λ insides. map spec.inside_of insides.items ≡ tree.insides_from 0 all.now) }
 {
     let mut insides = VecDeque::new(alloc);

@@ -104,10 +104,7 @@ fn owned_one<'a>(own: Option<&Text>, mention: Mention<'a>) -> Option<Mention<'a>
 }
 
 /// Puts behind the others what a function expression mentions.
-pub fn push_owned<'a>(
-    inside: &Inside<'a>,
-    mentions: &mut Vec<Mention<'a>>,
-) -> Result<(), NoMemory>
+pub fn push_owned<'a>(inside: &Inside<'a>, mentions: &mut Vec<Mention<'a>>) -> Result<(), NoMemory>
     ensures { OnOk result (spec.told mentions.new.items ≡ spec.told mentions.old.items ++ tree.as_expression (spec.inside_of inside.now)) }
 {
     for mention in inside.mentions.as_slice() {

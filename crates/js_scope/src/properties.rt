@@ -83,10 +83,7 @@ fn push_repeat<'a>(
 }
 
 /// Puts behind the others the properties that clash with an earlier one.
-pub fn push_repeats<'a>(
-    fields: &[Field],
-    mentions: &mut Vec<Mention<'a>>,
-) -> Result<(), NoMemory>
+pub fn push_repeats<'a>(fields: &[Field], mentions: &mut Vec<Mention<'a>>) -> Result<(), NoMemory>
     ensures { OnOk result (spec.told mentions.new.items ≡ spec.told mentions.old.items ++ tree.repeated [] (map properties.property fields.now)) }
 {
     for i in 0..fields.len() {

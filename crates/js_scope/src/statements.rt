@@ -5,18 +5,12 @@ ghost use Rattle.js_scope.specs.Mentioning as spec;
 
 use crate::mention::{Mention, push_unbound};
 use crate::walk::Walk;
-use js_tree::{
-    Case, Catch, Declarator, Expr, Finally, ForStart, ForTarget, Stmt, StmtForm,
-};
+use js_tree::{Case, Catch, Declarator, Expr, Finally, ForStart, ForTarget, Stmt, StmtForm};
 use js_value::NoMemory;
 use std::slice::from_ref;
 
 impl<'a> Walk<'a, '_> {
-    fn in_maybe(
-        &self,
-        e: &'a Option<Expr>,
-        mentions: &mut Vec<Mention<'a>>,
-    ) -> Result<(), NoMemory>
+    fn in_maybe(&self, e: &'a Option<Expr>, mentions: &mut Vec<Mention<'a>>) -> Result<(), NoMemory>
         ensures { OnOk result (spec.told mentions.new.items ≡ spec.told mentions.old.items ++ spec.in_maybe self.now e.now) }
     {
         match e {
@@ -38,11 +32,7 @@ impl<'a> Walk<'a, '_> {
         Ok(())
     }
 
-    fn in_start(
-        &self,
-        from: &'a ForStart,
-        mentions: &mut Vec<Mention<'a>>,
-    ) -> Result<(), NoMemory>
+    fn in_start(&self, from: &'a ForStart, mentions: &mut Vec<Mention<'a>>) -> Result<(), NoMemory>
         ensures { OnOk result (spec.told mentions.new.items ≡ spec.told mentions.old.items ++ spec.in_start self.now from.now) }
     {
         match from {
@@ -67,11 +57,7 @@ impl<'a> Walk<'a, '_> {
 
     /// Puts behind the others what statements mention.
     #[cycle(stmt_mentions)]
-    pub fn in_stmts(
-        &self,
-        all: &'a [Stmt],
-        mentions: &mut Vec<Mention<'a>>,
-    ) -> Result<(), NoMemory>
+    pub fn in_stmts(&self, all: &'a [Stmt], mentions: &mut Vec<Mention<'a>>) -> Result<(), NoMemory>
         ensures { OnOk result (spec.told mentions.new.items ≡ spec.told mentions.old.items ++ spec.in_stmts self.now all.now) }
     {
         for s in all {

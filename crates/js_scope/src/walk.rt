@@ -84,11 +84,7 @@ impl<'a> Walk<'a, '_> {
     }
 
     #[cycle(expr_mentions)]
-    fn in_fields(
-        &self,
-        all: &'a [Field],
-        mentions: &mut Vec<Mention<'a>>,
-    ) -> Result<(), NoMemory>
+    fn in_fields(&self, all: &'a [Field], mentions: &mut Vec<Mention<'a>>) -> Result<(), NoMemory>
         ensures { OnOk result (spec.told mentions.new.items ≡ spec.told mentions.old.items ++ spec.in_fields self.now all.now) }
     {
         for field in all {

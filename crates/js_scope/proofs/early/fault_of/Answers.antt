@@ -9,11 +9,11 @@ returns-then-is_retyped c =
     let all = c.args.all.now in
     let v = c.in-Takes in
     sym (ap (λ m. early.mention_fault (mentioning.told all) (mentioning.mention_of m)) v.is
-      ∙ retyped all v.at v.kind v.name.now true (sym c.if-is_retyped.true ∙ c.is_retyped.ensures))
+    ∙ retyped all v.at v.kind v.name.now true (sym c.if-is_retyped.true ∙ c.is_retyped.ensures))
 
 pub returns-else-is_retyped : goal.returns-else-is_retyped
 returns-else-is_retyped c =
     let all = c.args.all.now in
     let v = c.in-Takes in
     sym (ap (λ m. early.mention_fault (mentioning.told all) (mentioning.mention_of m)) v.is
-      ∙ retyped all v.at v.kind v.name.now false (sym c.if-is_retyped.false ∙ c.is_retyped.ensures))
+    ∙ retyped all v.at v.kind v.name.now false (sym c.if-is_retyped.false ∙ c.is_retyped.ensures))

@@ -1,4 +1,4 @@
-use Rattle.std.proofs.Common.{◌≡◌, ◌++◌, ap, ◌∙◌, sym, append_assoc, map, take, [], arith}
+use Rattle.std.proofs.Common.{◌++◌, ap, ◌∙◌, sym, append_assoc, map, take, [], arith}
 use Rattle.js_tree.specs.Mentions as tree
 use Rattle.js_scope.specs.Mentioning as spec
 use Rattle.js_scope.specs.Properties as properties

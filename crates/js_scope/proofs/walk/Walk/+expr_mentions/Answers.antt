@@ -1,4 +1,4 @@
-use Rattle.std.proofs.Common.{◌≡◌, ◌++◌, ap, sym, ◌∙◌, append_assoc, map, []}
+use Rattle.std.proofs.Common.{◌++◌, ap, sym, ◌∙◌, append_assoc, map, []}
 use Rattle.std.specs.List.{flat_map}
 use Rattle.js_tree.specs.Mentions as tree
 use Rattle.js_scope.specs.Mentioning as spec
@@ -53,8 +53,8 @@ in_form-returns-in_ok-in_fields-in-ObjectLit t c =
     let v = c.in-ObjectLit in
     W.behind c.push_repeats.result _ _ _ (spec.in_fields w c.as_slice-in-ObjectLit.result.now) (tree.repeated [] (map properties.property c.as_slice-in-ObjectLit-2.result.now)) _ c.in_ok-in_fields-in-ObjectLit.ensures
     (ap (λ f. (spec.in_form w f at).0) v.is ∙ W.form-ObjectLit w v.fields at
-      ∙ ap (λ fs. spec.in_fields w fs ++ tree.repeated [] (map properties.property v.fields)) (sym c.as_slice-in-ObjectLit.ensures)
-      ∙ ap (λ fs. spec.in_fields w c.as_slice-in-ObjectLit.result.now ++ tree.repeated [] (map properties.property fs)) (sym c.as_slice-in-ObjectLit-2.ensures))
+    ∙ ap (λ fs. spec.in_fields w fs ++ tree.repeated [] (map properties.property v.fields)) (sym c.as_slice-in-ObjectLit.ensures)
+    ∙ ap (λ fs. spec.in_fields w c.as_slice-in-ObjectLit.result.now ++ tree.repeated [] (map properties.property fs)) (sym c.as_slice-in-ObjectLit-2.ensures))
     c.push_repeats.ensures
 
 pub in_form-returns-in-ArrayLit : goal.in_form-returns-in-ArrayLit

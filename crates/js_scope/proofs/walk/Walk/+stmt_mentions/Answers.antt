@@ -1,4 +1,4 @@
-use Rattle.std.proofs.Common.{◌≡◌, ◌++◌, ap, sym, ◌∙◌, append_assoc}
+use Rattle.std.proofs.Common.{◌++◌, ap, sym, ◌∙◌, append_assoc}
 use Rattle.js_scope.specs.Mentioning as spec
 use Rattle.js_scope.proofs.Walks as W
 use Rattle.js_scope.proofs.walk.Walk.+stmt_mentions.Goals as goal
