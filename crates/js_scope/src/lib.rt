@@ -10,6 +10,8 @@ mod mention;
 mod names;
 mod properties;
 mod statements;
+#[cfg(test)]
+mod tests;
 mod walk;
 
 pub use early::check;
