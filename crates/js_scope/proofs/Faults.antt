@@ -1,6 +1,6 @@
 -- The faults of jumps are kept place by place.
-use Rattle.std.proofs.Common.{◌≡◌, ◌++◌, ℕ, List, [], ◌∷◌, refl, ap, sym, ◌∙◌, map}
-use Rattle.std.specs.Prelude.{Option, Bool, ◌||◌, if◌then◌else◌}
+use Rattle.std.proofs.Common.{◌≡◌, ◌++◌, ℕ, List, [], ◌∷◌, refl, ap, sym, ◌∙◌}
+use Rattle.std.specs.Prelude.{Option, Bool, if◌then◌else◌}
 use Rattle.std.specs.List.{list_any}
 use Rattle.std.proofs.lemmas.Grind.{flat_map-append, fold-append}
 use Rattle.std.proofs.lemmas.List.Folds.{flat_map-map}
@@ -14,6 +14,7 @@ use Rattle.js_tree.specs.declared.refusal.ReadRefused.TheVariants.{Unsupported}
 use Rattle.js_tree.specs.Mentions.{Takes}
 use Rattle.js_scope.specs.declared.mention.Mention as D
 use Rattle.js_scope.specs.Mentioning.{mention_of, told}
+use Rattle.js_scope.proofs.Repeated.{list_any-map}
 use Rattle.js_scope.specs.declared.jumps.Jump.{Jump}
 use Rattle.js_scope.specs.declared.jumps.Jump.TheVariants as jump
 use Rattle.js_scope.specs.Jumps.{leaving, in_stmt, in_stmts, with_jumps, with_faults, at_place}
@@ -37,10 +38,6 @@ pub returns_are : (least : Option ReadRefused) (body : List Stmt) → with_fault
 returns_are least body = by_place least (places_in returns body) ∙ ap (λ ps. with_jumps least ps) (sym (places_are jump.Return body))
 
 pub ruleset faults = (loose_are, returns_are, fold-append, flat_map-append)
-
-list_any-map : {A B : Type 0} (test : B → Bool) (v : A → B) (xs : List A) → list_any test (map v xs) ≡ list_any (λ x. test (v x)) xs
-list_any-map test v [] = refl
-list_any-map test v (x ∷ xs) = ap (λ b. test (v x) || b) (list_any-map test v xs)
 
 pub retyped : (all : List D.Mention) (at : Place) (k : Kind) (name : List ℕ) (b : Bool) → b ≡ list_any (λ m. differs at k name (mention_of m)) all
     → mention_fault (told all) (Takes at k name) ≡ (if b then Unsupported at feature.AbstractType ∷ [] else [])

@@ -21,7 +21,7 @@ none_behind : (ms : List Mention) → ms ++ [] ≡ ms
 none_behind [] = refl
 none_behind (m ∷ ms) = ap (λ r. m ∷ r) (none_behind ms)
 
-list_any-map : {A B : Type 0} (test : B → Bool) (v : A → B) (xs : List A) → list_any test (map v xs) ≡ list_any (λ x. test (v x)) xs
+pub list_any-map : {A B : Type 0} (test : B → Bool) (v : A → B) (xs : List A) → list_any test (map v xs) ≡ list_any (λ x. test (v x)) xs
 list_any-map test v [] = refl
 list_any-map test v (x ∷ xs) = ap (λ b. test (v x) || b) (list_any-map test v xs)
 

@@ -17,6 +17,7 @@ use js_tree::{Feature, ReadRefused, Script, Stmt};
 use js_value::{Kind, NoMemory, Place, Text};
 use std::alloc::Global;
 
+/// The least fault, where each `break` outside loop and `switch` is one, and each `continue` outside a loop.
 #[tactic(auto, using(crate::proofs::Faults::faults))]
 fn loose_jumps(body: &[Stmt], least: Option<ReadRefused>) -> Option<ReadRefused>
     ensures { result ≡ spec.with_faults least (early.loose_jumps body.now) }
@@ -49,6 +50,7 @@ fn differs(at: Place, kind: Kind, name: &Text, mention: &Mention) -> bool
     }
 }
 
+/// Whether an input has another type at an earlier place.
 fn is_retyped(all: &[Mention], at: Place, kind: Kind, name: &Text) -> bool
     ensures { result ≡ list_any (λ m. early.differs at kind name.now (mentioning.mention_of m)) all.now }
 {
@@ -109,7 +111,8 @@ fn mention_fault(
 /// The early checks (16) of a script that was read, of which the first fault in the text answers: `return` outside a
 /// function (12.9), `break` and `continue` outside what they leave (12.7, 12.8), and a property given twice as a value and
 /// an accessor, or by two getters or two setters (11.1.5), are no syntax. An assignment to a function expression's own
-/// name (13), and an input that has another type at an earlier place, aren't supported.
+/// name (13), and an input that has another type at an earlier place, aren't supported. `NoMemory` comes only where there is
+/// no memory. It compares each name with all others that it keeps, and each input with all others.
 #[tactic(auto, using(crate::proofs::Whole::checks))]
 pub fn check(alloc: Global, script: &Script) -> Result<(), ReadRefused>
     ensures { Tells (early.early_fault script.now) result }

@@ -24,6 +24,7 @@ fn add_mentioned(alloc: Global, mention: &Mention, names: &mut Seq<Text>) -> Res
     }
 }
 
+/// Adds the names that these mention, each unless it is there.
 fn add_all(alloc: Global, mentions: &[Mention], names: &mut Seq<Text>) -> Result<(), NoMemory>
     ensures { OnOk result (names.new ≡ hoisting.add_all names.old (flat_map tree.mentioned_name (mentioning.told mentions.now))) }
 {
@@ -43,9 +44,9 @@ fn names_of(alloc: Global, mentions: &[Mention]) -> Result<Seq<Text>, NoMemory>
     Ok(names)
 }
 
-/// The free names of a function (10.2.2): those that it and the functions inside it mention, and that neither it nor what
-/// they stand in declares, each once, in the order in which they come first. Its own name (13) is among them where it is
-/// mentioned. A number past the functions has none.
+/// The free names of a function (10.2.2): those that it or a function inside it mentions, and that no handler or function
+/// around the mention binds, itself the outermost, each once, in the order in which they come first. Its own name (13) is
+/// among them where it is mentioned. A number past the functions has none. `NoMemory` comes only where there is no memory.
 #[tactic(auto, unfolding(js_tree::specs::Mentions::free_names))]
 pub fn free_names(alloc: Global, script: &Script, f: FuncNo) -> Result<Seq<Text>, NoMemory>
     ensures { IfOk result (λ names. names ≡ tree.free_names script.now f) }

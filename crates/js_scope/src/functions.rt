@@ -38,6 +38,7 @@ fn name_at(behind: &[Func], first: usize, f: FuncNo) -> Option<&Text>
     }
 }
 
+/// Puts a copy of a name behind the others, where there is one.
 fn push_name(alloc: Global, name: Option<&Text>, names: &mut Seq<Text>) -> Result<(), NoMemory>
     ensures { OnOk result (names.new ≡ names.old ++ spec.own_of name.entry) }
 {
@@ -47,6 +48,7 @@ fn push_name(alloc: Global, name: Option<&Text>, names: &mut Seq<Text>) -> Resul
     }
 }
 
+/// Puts the names of parameters behind the others.
 fn push_parameters(
     alloc: Global,
     parameters: &[Name],
@@ -60,6 +62,7 @@ fn push_parameters(
     Ok(())
 }
 
+/// Puts copies of names behind the others.
 fn push_names(alloc: Global, more: &[Text], names: &mut Seq<Text>) -> Result<(), NoMemory>
     ensures { OnOk result (names.new ≡ names.old ++ more.now) }
 {
@@ -69,6 +72,7 @@ fn push_names(alloc: Global, more: &[Text], names: &mut Seq<Text>) -> Result<(),
     Ok(())
 }
 
+/// Puts the names of functions behind the others, where those behind begin with the number `first`.
 fn push_functions(
     alloc: Global,
     behind: &[Func],

@@ -139,7 +139,7 @@ fn in_form(form: &StmtForm, alloc: Global, vars: &mut Seq<Text>) -> Result<(), N
 /// The names that global code or a function's body declares as a whole (10.5).
 #[derive(Debug, Drop)]
 pub struct HoistedNames {
-    /// The function declarations among its elements, in order: of two with one name the later one counts.
+    /// The function declarations among its elements, in order, those of one name too.
     pub functions: Seq<FuncNo>,
     /// The names that `var` declares in it, each once, in the order in which they come first.
     pub vars: Seq<Text>,
@@ -155,6 +155,7 @@ fn declared_function(s: &Stmt) -> Option<FuncNo>
     }
 }
 
+/// The functions that are declared among a body's elements, in order.
 #[tactic(auto, unfolding(js_tree::specs::Mentions::hoisted_functions))]
 pub fn functions_in(alloc: Global, body: &[Stmt]) -> Result<Seq<FuncNo>, NoMemory>
     ensures { IfOk result (λ fs. fs ≡ names.hoisted_functions body.now) }
@@ -168,6 +169,7 @@ pub fn functions_in(alloc: Global, body: &[Stmt]) -> Result<Seq<FuncNo>, NoMemor
     Ok(functions)
 }
 
+/// The names that `var` declares in a body, each once, in the order in which they come first.
 #[tactic(auto, using(crate::proofs::Gathered::gathered))]
 pub fn vars_of(alloc: Global, body: &[Stmt]) -> Result<Seq<Text>, NoMemory>
     ensures { IfOk result (λ vars. vars ≡ names.hoisted_vars body.now) }
@@ -186,7 +188,8 @@ fn of_body(alloc: Global, body: &[Stmt]) -> Result<HoistedNames, NoMemory>
     })
 }
 
-/// The names that the global code declares, or the body of a function. A number past the functions has an empty body.
+/// The names that the global code declares as a whole, or the body of a function (10.5). A number past the functions has
+/// an empty body. `NoMemory` comes only where there is no memory.
 pub fn hoisted(alloc: Global, script: &Script, f: Option<FuncNo>) -> Result<HoistedNames, NoMemory>
     ensures { IfOk result (λ h. spec.HoistsBody (spec.body_of script.now f) h) }
 {

@@ -42,6 +42,7 @@ pub fn lesser(least: Option<ReadRefused>, fault: ReadRefused) -> Option<ReadRefu
     }
 }
 
+/// The least fault, where there is a jump at a place too.
 fn at_place(least: Option<ReadRefused>, at: Place) -> Option<ReadRefused>
     ensures { result ≡ spec.at_place least at }
 {
