@@ -1,5 +1,5 @@
 -- Behind an operand the tightest operator that its levels allow is taken, or none is.
-use Rattle.std.proofs.Common.{◌≡◌, ℕ, zero, suc, ◌+◌, ◌-◌, ◌<◌, ◌≤◌, Bool, true, false, cond, List, [], ◌∷◌, length, drop, refl, ap, sym, ◌∙◌, subst, arith}
+use Rattle.std.proofs.Common.{◌≡◌, ℕ, zero, suc, ◌+◌, ◌<◌, ◌≤◌, Bool, true, false, cond, List, [], ◌∷◌, length, drop, refl, ap, sym, ◌∙◌, subst, arith}
 use Rattle.std.specs.Prelude.{Option, Some, None, Result, Ok, Err, IfOk}
 use Rattle.std.specs.Option.{option_map, option_or}
 use Rattle.std.proofs.lemmas.List.{length-drop, drop-drop}
@@ -9,11 +9,15 @@ use Rattle.js_tree.specs.declared.refusal.ReadRefused.{ReadRefused}
 use Rattle.js_tree.specs.declared.refusal.ReadRefused.TheVariants.{Nested}
 use Rattle.js_tree.specs.declared.token.TokenForm.{TokenForm}
 use Rattle.js_tree.specs.declared.token.Token.{Token}
-use Rattle.js_grammar.specs.Rest.{Rest, Reading, ◌>>=◌, behind, give, next, go_on, of_first, passed, repeat, finish}
+use Rattle.js_grammar.specs.Rest.{Rest, Reading, ◌>>=◌, behind, give, next, of_first, passed, repeat, finish}
 use Rattle.js_grammar.proofs.Alike.{Setting, Alike, RuleAlike, Corresponds, later, taking, bind, bind_behind, gives, takes, finishes, repeats}
-use Rattle.js_grammar.proofs.Tied.{exact}
+use Rattle.js_grammar.specs.Expressions as E
+use Rattle.js_grammar.specs.Reading.{grammar}
+use Rattle.js_grammar.proofs.AlikeParts.{further}
+use Rattle.js_grammar.proofs.AlikeExpressions.{unary_too}
+use Rattle.js_grammar.proofs.Tied.{exact, grammar_too}
 use Rattle.js_grammar.proofs.Unrolled.{unrolled}
-use Rattle.js_grammar.specs.Climbing.{Level, Found, found_at, tight, rule, read_all, rest}
+use Rattle.js_grammar.specs.Climbing.{Level, Found, found_at, tight, rule, read_all, rest, behind_operator, levels, Climbs}
 
 -- ---- putting readings together
 
@@ -53,9 +57,11 @@ assoc3 m f g h k s = one (m s)
     three : (r : Result _ ReadRefused) → behind (behind r h) k ≡ behind r (λ c. h c >>= k)
     three (Ok x) = refl
     three (Err e) = refl
+
     two : (a : _) (r : Result _ ReadRefused) → behind (behind r (λ b. g a b >>= h)) k ≡ behind r (λ b. g a b >>= λ c. h c >>= k)
     two a (Ok x) = three (g a x.0 x.1)
     two a (Err e) = refl
+
     one : (r : Result _ ReadRefused) → behind (behind r (λ a. f a >>= λ b. g a b >>= h)) k ≡ behind r (λ a. f a >>= λ b. g a b >>= λ c. h c >>= k)
     one (Ok x) = two x.0 (f x.0 x.1)
     one (Err e) = refl
@@ -98,8 +104,10 @@ loud n l ls (t ∷ ts) f e = by (tight (n + 1) ls t.form) refl (l.operator t.for
 
 module _ (operand : Reading Expr) (alike : (w : Setting) → Alike w true 0 operand operand) where
   rule_too : (l : Level) (w : Setting) {i : ℕ} {m n : Reading Expr} → Alike w true i m n → RuleAlike w i (rule operand l m) (rule operand l n)
-  rule_too l w t = record { at = λ k le m n again left. takes w l.operator (λ op. bind w (taking w (later w (omega (arith, le)) t)) (λ right.
-      bind w (finishes w left.at (l.form op left right)) (λ both. again both))) (gives w left) }
+  rule_too l w t = record {
+    at = λ k le m n again left. takes w l.operator (λ op. bind w (taking w (later w (omega (arith, le)) t)) (λ right.
+        bind w (finishes w left.at (l.form op left right)) (λ both. again both))) (gives w left);
+  }
 
   read_all_too : (ls : List Level) (w : Setting) → Alike w true 0 (read_all operand ls) (read_all operand ls)
   read_all_too [] w = alike w
@@ -140,12 +148,8 @@ module _ (operand : Reading Expr) (alike : (w : Setting) → Alike w true 0 oper
   -- ---- an operator comes next
 
   module _ (all : List Level) where
-    -- an operator with its right side, and what goes on behind them
-    abbrev pub behind_operator : List Level → Expr → Found → Reading Expr
-    behind_operator ls x f = operand >>= λ z. rest operand (drop f.level all) z >>= λ y. finish x.at (f.form x y) >>= rest operand ls
-
     abbrev Shift : ℕ → List Level → Type 0
-    Shift n ls = (x : Expr) (s : Rest) (f : Found) → of_first (tight n ls) s.tokens ≡ Some f → rest operand ls x s ≡ behind_operator ls x f (passed s)
+    Shift n ls = (x : Expr) (s : Rest) (f : Found) → of_first (tight n ls) s.tokens ≡ Some f → rest operand ls x s ≡ behind_operator operand all ls x f (passed s)
 
     abbrev Quiet : ℕ → List Level → Type 0
     Quiet n ls = (x : Expr) (s : Rest) → IfOk (rest operand ls x s) (λ r. of_first (tight n ls) r.1.tokens ≡ None)
@@ -160,8 +164,13 @@ module _ (operand : Reading Expr) (alike : (w : Setting) → Alike w true 0 oper
     quiet_step n ls shift x s again (Some f) e =
         rw (shift x s f e)
         (bound_ok operand _ (passed s) _ (λ z t e1. bound_ok (rest operand (drop f.level all) z) _ t _ (λ y v e2. bound_ok (finish x.at (f.form x y)) _ v _ (λ both u e3.
-        again both u (omega (arith, some_first (tight n ls) f s.tokens e, shorter operand (passed s) z t (λ w. taking w (alike w)) e1,
-        shorter (rest operand (drop f.level all) z) t y v (λ w. rest_too (drop f.level all) w z) e2, ap (λ r. length r.tokens) (finish_keeps x (f.form x y) v both u e3)))))))
+        again both u (omega (
+          arith,
+          some_first (tight n ls) f s.tokens e,
+          shorter operand (passed s) z t (λ w. taking w (alike w)) e1,
+          shorter (rest operand (drop f.level all) z) t y v (λ w. rest_too (drop f.level all) w z) e2,
+          ap (λ r. length r.tokens) (finish_keeps x (f.form x y) v both u e3),
+        ))))))
 
     quiet_for : (fuel n : ℕ) (ls : List Level) → Shift n ls → (x : Expr) (s : Rest) → length s.tokens < fuel → IfOk (rest operand ls x s) (λ r. of_first (tight n ls) r.1.tokens ≡ None)
     quiet_for zero n ls shift x s few = absurd (omega (arith, few))
@@ -173,7 +182,7 @@ module _ (operand : Reading Expr) (alike : (w : Setting) → Alike w true 0 oper
     no_level n (t ∷ ts) f e = e
 
     at_this : (n : ℕ) (l : Level) (ls : List Level) → ls ≡ drop (n + 1) all → Shift (n + 1) ls → (x : Expr) (s : Rest) (op : l.Operator) → of_first (tight (n + 1) ls) s.tokens ≡ None
-        → of_first l.operator s.tokens ≡ Some op → rest operand (l ∷ ls) x s ≡ behind_operator (l ∷ ls) x (found_at l n op) (passed s)
+        → of_first l.operator s.tokens ≡ Some op → rest operand (l ∷ ls) x s ≡ behind_operator operand all (l ∷ ls) x (found_at l n op) (passed s)
     at_this n l ls is shift x s op no_tighter has =
         let again : Expr → Reading Expr = repeat (rule operand l (read_all operand ls)) in
         let join : Expr → Reading Expr = λ y. finish x.at (l.form op x y) in
@@ -190,7 +199,7 @@ module _ (operand : Reading Expr) (alike : (w : Setting) → Alike w true 0 oper
         sym (ap (λ a. behind a again) (reduce ls (n + 1) both r (subst (λ k. of_first (tight (n + 1) ls) k.tokens ≡ None) (sym still) here)))))))
 
     shift_by : (n : ℕ) (l : Level) (ls : List Level) → ls ≡ drop (n + 1) all → Shift (n + 1) ls → (x : Expr) (s : Rest) (f : Found) → Loud n l ls s.tokens f
-        → rest operand (l ∷ ls) x s ≡ behind_operator (l ∷ ls) x f (passed s)
+        → rest operand (l ∷ ls) x s ≡ behind_operator operand all (l ∷ ls) x f (passed s)
     shift_by n l ls is shift x s f (tighter e) =
         ap (λ r. behind r (repeat (rule operand l (read_all operand ls)))) (shift x s f e)
         ∙ assoc3 operand (rest operand (drop f.level all)) (λ z y. finish x.at (f.form x y)) (rest operand ls) (repeat (rule operand l (read_all operand ls))) (passed s)
@@ -201,3 +210,19 @@ module _ (operand : Reading Expr) (alike : (w : Setting) → Alike w true 0 oper
     shift (l ∷ ls) n is x s f e =
         let tail : ls ≡ drop (n + 1) all = ap (drop 1) is ∙ drop-drop 1 n all in
         shift_by n l ls tail (shift ls (n + 1) tail) x s f (loud n l ls s.tokens f e)
+
+-- ---- the operators of the language
+
+unary_alike : (w : Setting) → Alike w true 0 (E.unary grammar) (E.unary grammar)
+unary_alike w = unary_too w (further w (omega arith) (grammar_too w))
+
+begins : (allows_in : Bool) (s : Rest) → E.logical_or grammar allows_in s ≡ (E.unary grammar >>= rest (E.unary grammar) (levels allows_in)) s
+unfolding E.logical_or E.logical_and E.bit_or E.bit_xor E.bit_and E.equality E.relational E.shift E.additive E.multiplicative
+begins allows_in s = read_rest (E.unary grammar) unary_alike (levels allows_in) s
+
+pub climbs : Climbs
+climbs = record {
+  begins = begins;
+  goes_on = λ allows_in n. shift (E.unary grammar) unary_alike (levels allows_in) (drop n (levels allows_in)) n refl;
+  ends = λ allows_in n. reduce (E.unary grammar) unary_alike (drop n (levels allows_in)) n;
+}

@@ -1,5 +1,5 @@
 -- Operators with two operands by their levels, each of which groups to the left (11.5 to 11.11).
-use Rattle.std.specs.Prelude.{ℕ, ◌+◌, Bool, List, [], ◌∷◌, drop, Option, Some, None}
+use Rattle.std.specs.Prelude.{◌≡◌, ℕ, ◌+◌, Bool, List, [], ◌∷◌, drop, Option, Some, None, Ok}
 use Rattle.std.specs.Option.{option_map, option_or}
 use Rattle.js_value.specs.declared.operator.BinaryOp.{BinaryOp}
 use Rattle.js_tree.specs.declared.expression.Expr.{Expr}
@@ -7,7 +7,7 @@ use Rattle.js_tree.specs.declared.expression.ExprForm.{ExprForm}
 use Rattle.js_tree.specs.declared.expression.ExprForm.TheVariants as e
 use Rattle.js_tree.specs.declared.expression.LogicOp.{LogicOp}
 use Rattle.js_tree.specs.declared.token.TokenForm.{TokenForm}
-use Rattle.js_grammar.specs.Rest.{Reading, ◌>>=◌, give, next, repeat, finish}
+use Rattle.js_grammar.specs.Rest.{Rest, Reading, ◌>>=◌, give, next, repeat, finish, of_first, passed}
 use Rattle.js_grammar.specs.Expressions as E
 use Rattle.js_grammar.specs.Operators
 use Rattle.js_grammar.specs.Reading.{grammar}
@@ -60,3 +60,22 @@ module _ (operand : Reading Expr) where
   abbrev pub rest : List Level → Expr → Reading Expr
   rest [] x = give x
   rest (l ∷ ls) x = rest ls x >>= repeat (rule l (read_all ls))
+
+  -- an operator that comes next with its right side, whose operators are tighter, and what goes on behind them
+  abbrev pub behind_operator : List Level → List Level → Expr → Found → Reading Expr
+  behind_operator all ls x f = do
+    first ← operand
+    right ← rest (drop f.level all) first
+    both ← finish x.at (f.form x right)
+    rest ls both
+
+-- how operators with two operands are read, one operator after another
+pub record Climbs : Type 0 where
+  -- first an operand is read
+  pub begins : (allows_in : Bool) (s : Rest) → E.logical_or grammar allows_in s ≡ (E.unary grammar >>= rest (E.unary grammar) (levels allows_in)) s
+  -- then an operator of a level that is allowed is taken
+  pub goes_on : (allows_in : Bool) (n : ℕ) (x : Expr) (s : Rest) (f : Found) → of_first (tight n (drop n (levels allows_in))) s.tokens ≡ Some f
+      → rest (E.unary grammar) (drop n (levels allows_in)) x s ≡ behind_operator (E.unary grammar) (levels allows_in) (drop n (levels allows_in)) x f (passed s)
+  -- and where none comes, nothing is
+  pub ends : (allows_in : Bool) (n : ℕ) (x : Expr) (s : Rest) → of_first (tight n (drop n (levels allows_in))) s.tokens ≡ None
+      → rest (E.unary grammar) (drop n (levels allows_in)) x s ≡ Ok (x, s)

@@ -4,6 +4,7 @@
 ghost use Rattle.js_grammar.specs.EndCases.{EndCases};
 ghost use Rattle.js_grammar.specs.ExpressionCases.{ExpressionCases};
 ghost use Rattle.js_grammar.specs.StatementCases.{StatementCases};
+ghost use Rattle.js_grammar.specs.Climbing.{Climbs};
 ghost use Rattle.js_grammar.specs.Laws.{GoOn, LimitsNesting, Repeated, Tied};
 ghost use Rattle.js_grammar.specs.HeightCases.{HeightCases};
 ghost use Rattle.js_grammar.specs.OperatorCases.{OperatorCases};
@@ -33,11 +34,12 @@ pub fn readable_cases()
 {}
 
 /// Laws of the grammar, for every text: the productions tied together are those of the tied ones, a repeated rule is used
-/// once and then repeated, a production goes on behind at least one token and never back, and a greater limit changes only
-/// that something is nested too deep.
+/// once and then repeated, a production goes on behind at least one token and never back, of the operators with two operands
+/// the tightest that is allowed is taken next, and a greater limit changes only that something is nested too deep.
 pub fn reading_laws()
     ensures tied { Tied }
     ensures repeated { Repeated }
     ensures go_on { GoOn }
+    ensures operators { Climbs }
     ensures limits { LimitsNesting }
 {}

@@ -1,3 +1,4 @@
+use Rattle.js_grammar.proofs.Climbing.{climbs}
 use Rattle.js_grammar.proofs.Laws.{tied, repeated, go_on, limits_nesting}
 use Rattle.js_grammar.proofs.reading_laws.Goals as goal
 
@@ -12,3 +13,6 @@ returns-clause-go_on c = go_on
 
 pub returns-clause-limits : goal.returns-clause-limits
 returns-clause-limits c = limits_nesting
+
+pub returns-clause-operators : goal.returns-clause-operators
+returns-clause-operators c = climbs
