@@ -1,42 +1,37 @@
--- The levels of operators with two operands that group to the left, by name.
-use Rattle.std.specs.Prelude.{Bool, Option}
-use Rattle.js_value.specs.declared.operator.BinaryOp.{BinaryOp}
+-- Operators that wait for their right side, and what a reader with such operators goes on with.
+use Rattle.std.specs.Prelude.{ℕ, Option, Some, None}
 use Rattle.js_tree.specs.declared.expression.Expr.{Expr}
-use Rattle.js_tree.specs.declared.token.TokenForm.{TokenForm}
-use Rattle.js_grammar.specs.Rest.{Reading}
-use Rattle.js_grammar.specs.Operators
-use Rattle.js_grammar.specs.Expressions as E
-use Rattle.js_grammar.specs.Reading.{grammar}
+use Rattle.js_tree.specs.declared.expression.ExprForm.{ExprForm}
+use Rattle.js_tree.specs.declared.expression.ExprForm.TheVariants as e
+use Rattle.js_grammar.specs.Climbing.{Found}
 use Rattle.plain_reader.specs.declared.operators.Level.{Level}
 use Rattle.plain_reader.specs.declared.operators.Level.TheVariants as level
+use Rattle.plain_reader.specs.declared.operators.Operator.{Operator}
+use Rattle.plain_reader.specs.declared.operators.Operator.TheVariants as operator
+use Rattle.plain_reader.specs.declared.expressions.Open.{Open}
 
-abbrev pub operator_at : Level → Bool → TokenForm → Option BinaryOp
-operator_at level.Multiplicative allows_in = Operators.multiplicative_operator
-operator_at level.Additive allows_in = Operators.additive_operator
-operator_at level.Shift allows_in = Operators.shift_operator
-operator_at level.Relational allows_in = E.relational_operator grammar allows_in
-operator_at level.Equality allows_in = Operators.equality_operator
-operator_at level.BitAnd allows_in = Operators.bit_and_operator
-operator_at level.BitXor allows_in = Operators.bit_xor_operator
-operator_at level.BitOr allows_in = Operators.bit_or_operator
+-- how many levels are no tighter
+abbrev pub number : Level → ℕ
+number level.Any = 0
+number level.Or = 1
+number level.And = 2
+number level.BitOr = 3
+number level.BitXor = 4
+number level.BitAnd = 5
+number level.Equality = 6
+number level.Relational = 7
+number level.Shift = 8
+number level.Additive = 9
+number level.Multiplicative = 10
 
-abbrev pub read_at : Level → Bool → Reading Expr
-read_at level.Multiplicative allows_in = E.multiplicative grammar
-read_at level.Additive allows_in = E.additive grammar
-read_at level.Shift allows_in = E.shift grammar
-read_at level.Relational allows_in = E.relational grammar allows_in
-read_at level.Equality allows_in = E.equality grammar allows_in
-read_at level.BitAnd allows_in = E.bit_and grammar allows_in
-read_at level.BitXor allows_in = E.bit_xor grammar allows_in
-read_at level.BitOr allows_in = E.bit_or grammar allows_in
+abbrev pub form_of : Operator → Expr → Expr → ExprForm
+form_of (operator.Binary op) = λ a b. e.Binary op a b
+form_of (operator.Logic op) = λ a b. e.Logic op a b
 
--- the level that binds more tightly
-abbrev pub read_inside : Level → Bool → Reading Expr
-read_inside level.Multiplicative allows_in = E.unary grammar
-read_inside level.Additive allows_in = E.multiplicative grammar
-read_inside level.Shift allows_in = E.additive grammar
-read_inside level.Relational allows_in = E.shift grammar
-read_inside level.Equality allows_in = E.relational grammar allows_in
-read_inside level.BitAnd allows_in = E.equality grammar allows_in
-read_inside level.BitXor allows_in = E.bit_and grammar allows_in
-read_inside level.BitOr allows_in = E.bit_xor grammar allows_in
+abbrev pub found_of : Operator × Level → Found
+found_of x = record { form = form_of x.0; level = number x.1 }
+
+-- the level that the right side of the last open operator has to pass
+abbrev pub least_after : Option Open → Level
+least_after None = level.Any
+least_after (Some f) = f.level

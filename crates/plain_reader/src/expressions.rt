@@ -1,15 +1,14 @@
 //! Expressions (11.3 to 11.14), from loose to tight.
 
-ghost use Rattle.std.specs.Prelude.{◌≡◌, ◌<◌, ◌≤◌, Some, length, IfOk};
+ghost use Rattle.std.specs.Prelude.{◌≡◌, ◌<◌, ◌≤◌, ◌-◌, Some, length, slice_get, IfOk};
 ghost use Rattle.js_grammar.specs.Expressions as spec;
-ghost use Rattle.js_grammar.specs.Operators as operators;
 ghost use Rattle.js_grammar.specs.Primary as primary;
 ghost use Rattle.js_grammar.specs.Reading.{grammar};
-ghost use Rattle.js_grammar.specs.Rest.{part, repeat};
-ghost use Rattle.plain_reader.specs.Levels.{operator_at, read_at, read_inside};
+ghost use Rattle.js_grammar.specs.Rest.{finish, part, repeat};
+ghost use Rattle.plain_reader.specs.Levels.{form_of, least_after};
 ghost use Rattle.plain_reader.specs.Reader.{rest_of, IsAnswer};
 
-use crate::operators::{Level, postfix};
+use crate::operators::{Level, Operator, postfix};
 use crate::reader::Reader;
 use js_tree::{Expr, ExprForm, Feature, Punctuator, ReadRefused, StepOp, Token};
 use js_value::{BinaryOp, Place, UnaryOp};
@@ -48,6 +47,24 @@ fn is_postfix(token: &Token) -> bool
     match postfix(&token.form) {
         Some(_) => true,
         None => false,
+    }
+}
+
+/// An operator with its left side, whose right side is being read.
+#[derive(Debug, Drop)]
+pub struct Open {
+    pub left: Expr,
+    pub op: Operator,
+    pub level: Level,
+}
+
+/// The level that an operator has to pass to belong to the right side of the last open one.
+fn least(open: &[Open]) -> Level
+    ensures { result ≡ least_after (slice_get open.now (length open.now - 1)) }
+{
+    match open.last() {
+        Some(last) => last.level,
+        None => Level::Any,
     }
 }
 
@@ -136,7 +153,7 @@ impl<'a> Reader<'a> {
         ensures left { IfOk result (λ _. length self.new.rest.now < length self.old.rest.now) }
         ensures within { length self.new.rest.now ≤ length self.old.rest.now }
     {
-        let test = self.logical_or(allows_in)?;
+        let test = self.operation(allows_in)?;
         if !self.take(Punctuator::Question) {
             return Ok(test);
         }
@@ -159,109 +176,37 @@ impl<'a> Reader<'a> {
         Ok(x)
     }
 
-    /// Operands of `||`, or a tighter expression (11.11).
+    /// An operator with its two operands.
+    fn joined(&self, open: Open, right: Expr) -> Result<Expr, ReadRefused>
+        ensures { IsAnswer (finish open.left.at (form_of open.op open.left right)) (rest_of self.now) (rest_of self.now) result }
+    {
+        let Open { left, op, .. } = open;
+        match op {
+            Operator::Binary(op) => self.finish(left.at, ExprForm::Binary(op, left, right)),
+            Operator::Logic(op) => self.finish(left.at, ExprForm::Logic(op, left, right)),
+        }
+    }
+
+    /// Operands with operators that group to the left (11.5 to 11.11), by a stack of those whose right side is being read.
     #[cycle(reading)]
-    #[tactic(auto, unfolding(js_grammar::specs::Expressions::logical_or))]
-    pub fn logical_or(&mut self, allows_in: bool) -> Result<Expr, ReadRefused>
+    pub fn operation(&mut self, allows_in: bool) -> Result<Expr, ReadRefused>
         ensures answer { IsAnswer (spec.logical_or grammar allows_in) (rest_of self.old) (rest_of self.new) result }
         ensures left { IfOk result (λ _. length self.new.rest.now < length self.old.rest.now) }
         ensures within { length self.new.rest.now ≤ length self.old.rest.now }
     {
-        let left = self.logical_and(allows_in)?;
-        self.more_or(allows_in, left)
-    }
-
-    /// Operands behind `||`.
-    #[cycle(reading)]
-    #[tactic(auto, using(crate::proofs::Laws::or_unroll), unfolding(js_grammar::specs::Rest::next))]
-    pub fn more_or(&mut self, allows_in: bool, left: Expr) -> Result<Expr, ReadRefused>
-        ensures answer { IsAnswer (repeat (spec.more_logic grammar operators.or_operator (spec.logical_and grammar allows_in)) left) (rest_of self.old) (rest_of self.new) result }
-        ensures within { length self.new.rest.now ≤ length self.old.rest.now }
-    {
-        let Some(op) = self.take_or() else {
-            return Ok(left);
-        };
-        let right = self.logical_and(allows_in)?;
-        let both = self.finish(left.at, ExprForm::Logic(op, left, right))?;
-        self.more_or(allows_in, both)
-    }
-
-    /// Operands of `&&`, or a tighter expression (11.11).
-    #[cycle(reading)]
-    #[tactic(auto, unfolding(js_grammar::specs::Expressions::logical_and))]
-    pub fn logical_and(&mut self, allows_in: bool) -> Result<Expr, ReadRefused>
-        ensures answer { IsAnswer (spec.logical_and grammar allows_in) (rest_of self.old) (rest_of self.new) result }
-        ensures left { IfOk result (λ _. length self.new.rest.now < length self.old.rest.now) }
-        ensures within { length self.new.rest.now ≤ length self.old.rest.now }
-    {
-        let left = self.binary(Level::BitOr, allows_in)?;
-        self.more_and(allows_in, left)
-    }
-
-    /// Operands behind `&&`.
-    #[cycle(reading)]
-    #[tactic(auto, using(crate::proofs::Laws::and_unroll), unfolding(js_grammar::specs::Rest::next))]
-    pub fn more_and(&mut self, allows_in: bool, left: Expr) -> Result<Expr, ReadRefused>
-        ensures answer { IsAnswer (repeat (spec.more_logic grammar operators.and_operator (spec.bit_or grammar allows_in)) left) (rest_of self.old) (rest_of self.new) result }
-        ensures within { length self.new.rest.now ≤ length self.old.rest.now }
-    {
-        let Some(op) = self.take_and() else {
-            return Ok(left);
-        };
-        let right = self.binary(Level::BitOr, allows_in)?;
-        let both = self.finish(left.at, ExprForm::Logic(op, left, right))?;
-        self.more_and(allows_in, both)
-    }
-
-    /// Operands of the operators of a level, or a tighter expression (11.5 to 11.10).
-    #[cycle(reading)]
-    #[tactic(auto, using(crate::proofs::Laws::read_at_is))]
-    pub fn binary(&mut self, level: Level, allows_in: bool) -> Result<Expr, ReadRefused>
-        ensures answer { IsAnswer (read_at level allows_in) (rest_of self.old) (rest_of self.new) result }
-        ensures left { IfOk result (λ _. length self.new.rest.now < length self.old.rest.now) }
-        ensures within { length self.new.rest.now ≤ length self.old.rest.now }
-    {
-        let left = self.inside(level, allows_in)?;
-        self.more_binary(level, allows_in, left)
-    }
-
-    /// Operands behind the operators of a level.
-    #[cycle(reading)]
-    #[tactic(auto, using(crate::proofs::Laws::binary_unroll), unfolding(js_grammar::specs::Rest::next))]
-    pub fn more_binary(
-        &mut self,
-        level: Level,
-        allows_in: bool,
-        left: Expr,
-    ) -> Result<Expr, ReadRefused>
-        ensures answer { IsAnswer (repeat (spec.more_binary grammar (operator_at level allows_in) (read_inside level allows_in)) left) (rest_of self.old) (rest_of self.new) result }
-        ensures within { length self.new.rest.now ≤ length self.old.rest.now }
-    {
-        let Some(op) = self.take_binary(level, allows_in) else {
-            return Ok(left);
-        };
-        let right = self.inside(level, allows_in)?;
-        let both = self.finish(left.at, ExprForm::Binary(op, left, right))?;
-        self.more_binary(level, allows_in, both)
-    }
-
-    /// An operand of the operators of a level.
-    #[cycle(reading)]
-    #[tactic(auto, using(js_grammar::proofs::Unrolled::unary_tied))]
-    pub fn inside(&mut self, level: Level, allows_in: bool) -> Result<Expr, ReadRefused>
-        ensures answer { IsAnswer (read_inside level allows_in) (rest_of self.old) (rest_of self.new) result }
-        ensures left { IfOk result (λ _. length self.new.rest.now < length self.old.rest.now) }
-        ensures within { length self.new.rest.now ≤ length self.old.rest.now }
-    {
-        match level {
-            Level::Multiplicative => self.unary(),
-            Level::Additive => self.binary(Level::Multiplicative, allows_in),
-            Level::Shift => self.binary(Level::Additive, allows_in),
-            Level::Relational => self.binary(Level::Shift, allows_in),
-            Level::Equality => self.binary(Level::Relational, allows_in),
-            Level::BitAnd => self.binary(Level::Equality, allows_in),
-            Level::BitXor => self.binary(Level::BitAnd, allows_in),
-            Level::BitOr => self.binary(Level::BitXor, allows_in),
+        let mut open = Vec::new(self.alloc);
+        let mut left = self.unary()?;
+        'operand: loop {
+            if let Some((op, level)) = self.next_operator(least(open.as_slice()), allows_in) {
+                self.pass();
+                open.push(Open { left, op, level })?;
+                left = self.unary()?;
+                continue;
+            }
+            match open.pop() {
+                None => return Ok(left),
+                Some(last) => left = self.joined(last, left)?,
+            }
         }
     }
 

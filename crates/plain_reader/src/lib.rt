@@ -24,7 +24,7 @@ use std::alloc::Global;
 
 /// The script of tokens before its early checks, or the first fault with its place: what can't go on, what isn't
 /// supported, or a part that is nested deeper than the limit. `NoMemory` comes only where there is no memory. It recurses
-/// once for each production, and its time isn't bounded: it is for small texts, and a second opinion for tests.
+/// for all but operators with two operands, and its time isn't bounded: it is for small texts.
 #[tactic(auto, unfolding(js_grammar::specs::Reading::read, js_grammar::specs::Reading::read_by))]
 pub fn read(alloc: Global, tokens: &Tokens, limit: u32) -> Result<Script, ReadRefused>
     ensures { Gives (spec.read tokens.now limit) result }

@@ -1,11 +1,15 @@
 //! Operators by their tokens.
 
-ghost use Rattle.std.specs.Prelude.{◌≡◌, ◌<◌, ◌≤◌, false, length, is_some, IfOk, IfSome};
+ghost use Rattle.std.specs.Prelude.{◌≡◌, ◌<◌, ◌≤◌, drop, length, is_some, IfOk, IfSome};
 ghost use Rattle.js_grammar.specs.Marks as marks;
 ghost use Rattle.js_grammar.specs.Operators as operators;
 ghost use Rattle.js_grammar.specs.Rest as spec;
-ghost use Rattle.js_tree.specs.declared.token.TokenForm.TheVariants as form;
-ghost use Rattle.plain_reader.specs.Levels.{operator_at};
+ghost use Rattle.js_grammar.specs.Climbing.{levels, tight};
+ghost use Rattle.js_grammar.specs.Expressions as expressions;
+ghost use Rattle.js_grammar.specs.Reading.{grammar};
+ghost use Rattle.plain_reader.specs.declared.operators.Operator.TheVariants as operator;
+ghost use Rattle.plain_reader.specs.Levels.{found_of, number};
+ghost use Rattle.std.specs.Option.{option_map, option_or};
 ghost use Rattle.plain_reader.specs.Reader.{rest_of, IsTaken};
 
 use crate::reader::Reader;
@@ -13,118 +17,118 @@ use js_tree::{ExprForm, Keyword, LogicOp, Punctuator, StepOp, Token, TokenForm};
 use js_value::{BinaryOp, NoMemory, Primitive, UnaryOp};
 use std::alloc::Global;
 
-/// The levels of operators with two operands that group to the left (11.5 to 11.10).
+/// An operator with two operands that groups to the left (11.5 to 11.11).
+#[derive(Clone, Copy, Debug, PartialEq, Eq)]
+pub enum Operator {
+    Binary(BinaryOp),
+    Logic(LogicOp),
+}
+
+/// The levels of these operators, from loose to tight. None of them is of level `Any`.
 #[derive(Clone, Copy, Debug, PartialEq, Eq)]
 pub enum Level {
-    Multiplicative,
-    Additive,
-    Shift,
-    Relational,
-    Equality,
-    BitAnd,
-    BitXor,
+    Any,
+    Or,
+    And,
     BitOr,
+    BitXor,
+    BitAnd,
+    Equality,
+    Relational,
+    Shift,
+    Additive,
+    Multiplicative,
 }
 
-fn multiplicative(mark: Punctuator) -> Option<BinaryOp>
-    ensures { result ≡ operators.multiplicative_operator (form.Punctuator mark) }
-{
-    match mark {
-        Punctuator::Star => Some(BinaryOp::Mul),
-        Punctuator::Slash => Some(BinaryOp::Div),
-        Punctuator::Percent => Some(BinaryOp::Rem),
-        _ => None,
-    }
-}
-
-fn additive(mark: Punctuator) -> Option<BinaryOp>
-    ensures { result ≡ operators.additive_operator (form.Punctuator mark) }
-{
-    match mark {
-        Punctuator::Plus => Some(BinaryOp::Add),
-        Punctuator::Minus => Some(BinaryOp::Sub),
-        _ => None,
-    }
-}
-
-fn shift(mark: Punctuator) -> Option<BinaryOp>
-    ensures { result ≡ operators.shift_operator (form.Punctuator mark) }
-{
-    match mark {
-        Punctuator::Shl => Some(BinaryOp::Shl),
-        Punctuator::Sar => Some(BinaryOp::Sar),
-        Punctuator::Shr => Some(BinaryOp::Shr),
-        _ => None,
-    }
-}
-
-fn relational(mark: Punctuator) -> Option<BinaryOp>
-    ensures { result ≡ operators.relational_operator (form.Punctuator mark) }
-{
-    match mark {
-        Punctuator::Less => Some(BinaryOp::Less),
-        Punctuator::Greater => Some(BinaryOp::Greater),
-        Punctuator::LessEqual => Some(BinaryOp::LessEqual),
-        Punctuator::GreaterEqual => Some(BinaryOp::GreaterEqual),
-        _ => None,
-    }
-}
-
-fn equality(mark: Punctuator) -> Option<BinaryOp>
-    ensures { result ≡ operators.equality_operator (form.Punctuator mark) }
-{
-    match mark {
-        Punctuator::Equal => Some(BinaryOp::Equal),
-        Punctuator::NotEqual => Some(BinaryOp::NotEqual),
-        Punctuator::Same => Some(BinaryOp::Same),
-        Punctuator::NotSame => Some(BinaryOp::NotSame),
-        _ => None,
-    }
-}
-
-/// The operator of a level that a punctuator is.
-fn marked(level: Level, mark: Punctuator) -> Option<BinaryOp>
-    ensures { result ≡ operator_at level false (form.Punctuator mark) }
-{
-    match level {
-        Level::Multiplicative => multiplicative(mark),
-        Level::Additive => additive(mark),
-        Level::Shift => shift(mark),
-        Level::Relational => relational(mark),
-        Level::Equality => equality(mark),
-        Level::BitAnd => match mark {
-            Punctuator::BitAnd => Some(BinaryOp::BitAnd),
-            _ => None,
-        },
-        Level::BitXor => match mark {
-            Punctuator::BitXor => Some(BinaryOp::BitXor),
-            _ => None,
-        },
-        Level::BitOr => match mark {
-            Punctuator::BitOr => Some(BinaryOp::BitOr),
-            _ => None,
-        },
-    }
-}
-
-/// The operator of a level that a word is.
-fn worded(level: Level, allows_in: bool, word: Keyword) -> Option<BinaryOp>
-    ensures { result ≡ operator_at level allows_in (form.Reserved word) }
-{
-    match (level, word) {
-        (Level::Relational, Keyword::InstanceOf) => Some(BinaryOp::InstanceOf),
-        (Level::Relational, Keyword::In) if allows_in => Some(BinaryOp::In),
-        _ => None,
-    }
-}
-
-/// The operator of a level that a token is.
-fn binary(level: Level, allows_in: bool, token: &TokenForm) -> Option<BinaryOp>
-    ensures { result ≡ operator_at level allows_in token.now }
+/// `*`, `/` and `%` (11.5).
+fn multiplicative(token: &TokenForm) -> Option<BinaryOp>
+    ensures { result ≡ operators.multiplicative_operator token.now }
 {
     match token {
-        TokenForm::Punctuator(mark) => marked(level, *mark),
-        TokenForm::Reserved(word) => worded(level, allows_in, *word),
+        TokenForm::Punctuator(Punctuator::Star) => Some(BinaryOp::Mul),
+        TokenForm::Punctuator(Punctuator::Slash) => Some(BinaryOp::Div),
+        TokenForm::Punctuator(Punctuator::Percent) => Some(BinaryOp::Rem),
+        _ => None,
+    }
+}
+
+/// `+` and `-` (11.6).
+fn additive(token: &TokenForm) -> Option<BinaryOp>
+    ensures { result ≡ operators.additive_operator token.now }
+{
+    match token {
+        TokenForm::Punctuator(Punctuator::Plus) => Some(BinaryOp::Add),
+        TokenForm::Punctuator(Punctuator::Minus) => Some(BinaryOp::Sub),
+        _ => None,
+    }
+}
+
+/// Shifts (11.7).
+fn shift(token: &TokenForm) -> Option<BinaryOp>
+    ensures { result ≡ operators.shift_operator token.now }
+{
+    match token {
+        TokenForm::Punctuator(Punctuator::Shl) => Some(BinaryOp::Shl),
+        TokenForm::Punctuator(Punctuator::Sar) => Some(BinaryOp::Sar),
+        TokenForm::Punctuator(Punctuator::Shr) => Some(BinaryOp::Shr),
+        _ => None,
+    }
+}
+
+/// Relations (11.8), with `in` where it is an operator.
+fn relational(allows_in: bool, token: &TokenForm) -> Option<BinaryOp>
+    ensures { result ≡ expressions.relational_operator grammar allows_in token.now }
+{
+    match token {
+        TokenForm::Punctuator(Punctuator::Less) => Some(BinaryOp::Less),
+        TokenForm::Punctuator(Punctuator::Greater) => Some(BinaryOp::Greater),
+        TokenForm::Punctuator(Punctuator::LessEqual) => Some(BinaryOp::LessEqual),
+        TokenForm::Punctuator(Punctuator::GreaterEqual) => Some(BinaryOp::GreaterEqual),
+        TokenForm::Reserved(Keyword::InstanceOf) => Some(BinaryOp::InstanceOf),
+        TokenForm::Reserved(Keyword::In) if allows_in => Some(BinaryOp::In),
+        _ => None,
+    }
+}
+
+/// Equalities (11.9).
+fn equality(token: &TokenForm) -> Option<BinaryOp>
+    ensures { result ≡ operators.equality_operator token.now }
+{
+    match token {
+        TokenForm::Punctuator(Punctuator::Equal) => Some(BinaryOp::Equal),
+        TokenForm::Punctuator(Punctuator::NotEqual) => Some(BinaryOp::NotEqual),
+        TokenForm::Punctuator(Punctuator::Same) => Some(BinaryOp::Same),
+        TokenForm::Punctuator(Punctuator::NotSame) => Some(BinaryOp::NotSame),
+        _ => None,
+    }
+}
+
+/// `&` (11.10).
+fn bit_and(token: &TokenForm) -> Option<BinaryOp>
+    ensures { result ≡ operators.bit_and_operator token.now }
+{
+    match token {
+        TokenForm::Punctuator(Punctuator::BitAnd) => Some(BinaryOp::BitAnd),
+        _ => None,
+    }
+}
+
+/// `^` (11.10).
+fn bit_xor(token: &TokenForm) -> Option<BinaryOp>
+    ensures { result ≡ operators.bit_xor_operator token.now }
+{
+    match token {
+        TokenForm::Punctuator(Punctuator::BitXor) => Some(BinaryOp::BitXor),
+        _ => None,
+    }
+}
+
+/// `|` (11.10).
+fn bit_or(token: &TokenForm) -> Option<BinaryOp>
+    ensures { result ≡ operators.bit_or_operator token.now }
+{
+    match token {
+        TokenForm::Punctuator(Punctuator::BitOr) => Some(BinaryOp::BitOr),
         _ => None,
     }
 }
@@ -209,6 +213,85 @@ fn or(token: &TokenForm) -> Option<LogicOp>
     }
 }
 
+/// The operator found at a tighter level, or else this one.
+fn binary_or(
+    tighter: Option<(Operator, Level)>,
+    op: Option<BinaryOp>,
+    level: Level,
+) -> Option<(Operator, Level)>
+    ensures { option_map found_of result ≡ option_or (option_map found_of tighter) (option_map (λ o. found_of (operator.Binary o, level)) op) }
+{
+    match (tighter, op) {
+        (Some(found), _) => Some(found),
+        (None, Some(op)) => Some((Operator::Binary(op), level)),
+        (None, None) => None,
+    }
+}
+
+/// The operator found at a tighter level, or else this one.
+fn logic_or(
+    tighter: Option<(Operator, Level)>,
+    op: Option<LogicOp>,
+    level: Level,
+) -> Option<(Operator, Level)>
+    ensures { option_map found_of result ≡ option_or (option_map found_of tighter) (option_map (λ o. found_of (operator.Logic o, level)) op) }
+{
+    match (tighter, op) {
+        (Some(found), _) => Some(found),
+        (None, Some(op)) => Some((Operator::Logic(op), level)),
+        (None, None) => None,
+    }
+}
+
+/// The operator that a token is, with its level, where that is tighter than this.
+fn tight(level: Level, allows_in: bool, token: &TokenForm) -> Option<(Operator, Level)>
+    ensures { option_map found_of result ≡ tight (number level) (drop (number level) (levels allows_in)) token.now }
+{
+    match level {
+        Level::Any => {
+            let tighter = tight(Level::Or, allows_in, token);
+            logic_or(tighter, or(token), Level::Or)
+        }
+        Level::Or => {
+            let tighter = tight(Level::And, allows_in, token);
+            logic_or(tighter, and(token), Level::And)
+        }
+        Level::And => {
+            let tighter = tight(Level::BitOr, allows_in, token);
+            binary_or(tighter, bit_or(token), Level::BitOr)
+        }
+        Level::BitOr => {
+            let tighter = tight(Level::BitXor, allows_in, token);
+            binary_or(tighter, bit_xor(token), Level::BitXor)
+        }
+        Level::BitXor => {
+            let tighter = tight(Level::BitAnd, allows_in, token);
+            binary_or(tighter, bit_and(token), Level::BitAnd)
+        }
+        Level::BitAnd => {
+            let tighter = tight(Level::Equality, allows_in, token);
+            binary_or(tighter, equality(token), Level::Equality)
+        }
+        Level::Equality => {
+            let tighter = tight(Level::Relational, allows_in, token);
+            binary_or(tighter, relational(allows_in, token), Level::Relational)
+        }
+        Level::Relational => {
+            let tighter = tight(Level::Shift, allows_in, token);
+            binary_or(tighter, shift(token), Level::Shift)
+        }
+        Level::Shift => {
+            let tighter = tight(Level::Additive, allows_in, token);
+            binary_or(tighter, additive(token), Level::Additive)
+        }
+        Level::Additive => {
+            let tighter = tight(Level::Multiplicative, allows_in, token);
+            binary_or(tighter, multiplicative(token), Level::Multiplicative)
+        }
+        Level::Multiplicative => None,
+    }
+}
+
 fn literal(alloc: Global, token: &TokenForm) -> Result<Option<ExprForm>, NoMemory>
     ensures { IfOk result (λ form. form ≡ marks.literal token.now) }
 {
@@ -226,17 +309,6 @@ fn literal(alloc: Global, token: &TokenForm) -> Result<Option<ExprForm>, NoMemor
 }
 
 impl<'a> Reader<'a> {
-    /// Takes the next token where it is an operator of a level.
-    pub fn take_binary(&mut self, level: Level, allows_in: bool) -> Option<BinaryOp>
-        ensures taken { IsTaken (operator_at level allows_in) (rest_of self.old) (rest_of self.new) result }
-        ensures left { IfSome result (λ _. length self.new.rest.now < length self.old.rest.now) }
-        ensures within { length self.new.rest.now ≤ length self.old.rest.now }
-    {
-        let op = binary(level, allows_in, &self.rest.first()?.form)?;
-        self.pass();
-        Some(op)
-    }
-
     /// Takes the next token where it is the operator of an assignment.
     pub fn take_assignment_operator(&mut self) -> Option<Option<BinaryOp>>
         ensures taken { IsTaken operators.assignment_operator (rest_of self.old) (rest_of self.new) result }
@@ -281,26 +353,14 @@ impl<'a> Reader<'a> {
         Some(op)
     }
 
-    /// Takes the next token where it is `&&`.
-    pub fn take_and(&mut self) -> Option<LogicOp>
-        ensures taken { IsTaken operators.and_operator (rest_of self.old) (rest_of self.new) result }
-        ensures left { IfSome result (λ _. length self.new.rest.now < length self.old.rest.now) }
-        ensures within { length self.new.rest.now ≤ length self.old.rest.now }
+    /// The operator that comes next, with its level, where that is tighter than this.
+    pub fn next_operator(&self, level: Level, allows_in: bool) -> Option<(Operator, Level)>
+        ensures { option_map found_of result ≡ spec.of_first (tight (number level) (drop (number level) (levels allows_in))) self.now.rest.now }
     {
-        let op = and(&self.rest.first()?.form)?;
-        self.pass();
-        Some(op)
-    }
-
-    /// Takes the next token where it is `||`.
-    pub fn take_or(&mut self) -> Option<LogicOp>
-        ensures taken { IsTaken operators.or_operator (rest_of self.old) (rest_of self.new) result }
-        ensures left { IfSome result (λ _. length self.new.rest.now < length self.old.rest.now) }
-        ensures within { length self.new.rest.now ≤ length self.old.rest.now }
-    {
-        let op = or(&self.rest.first()?.form)?;
-        self.pass();
-        Some(op)
+        match self.rest.first() {
+            Some(token) => tight(level, allows_in, &token.form),
+            None => None,
+        }
     }
 
     /// Takes the next token where it is `this` or a literal.

@@ -1,18 +1,9 @@
-use Rattle.std.proofs.Common.{ℕ, ◌+◌, ◌*◌, length}
-use Rattle.plain_reader.specs.declared.operators.Level.{Level}
-use Rattle.plain_reader.specs.declared.operators.Level.TheVariants as level
+use Rattle.std.proofs.Common.{◌≡◌, ◌<◌, ◌+◌, ◌*◌, length}
+use Rattle.js_grammar.specs.Expressions as E
+use Rattle.js_grammar.specs.Reading.{grammar}
+use Rattle.plain_reader.proofs.Stack.{going_on}
+use Rattle.plain_reader.specs.Reader.{rest_of}
 use Rattle.plain_reader.proofs.reader.Reader.+reading.Given as goal
-
--- how loose a level is
-abbrev looseness : Level → ℕ
-looseness level.Multiplicative = 0
-looseness level.Additive = 2
-looseness level.Shift = 4
-looseness level.Relational = 6
-looseness level.Equality = 8
-looseness level.BitAnd = 10
-looseness level.BitXor = 12
-looseness level.BitOr = 14
 
 abbrev pub decreases-accessor : goal.decreases-accessor
 decreases-accessor l = 64 * length l.self.now.rest.now + 5
@@ -31,9 +22,6 @@ decreases-assignment l = 64 * length l.self.now.rest.now + 35
 
 abbrev pub decreases-begun : goal.decreases-begun
 decreases-begun l = 64 * length l.self.now.rest.now + 60
-
-abbrev pub decreases-binary : goal.decreases-binary
-decreases-binary l = 64 * length l.self.now.rest.now + (12 + looseness l.level)
 
 abbrev pub decreases-block_behind : goal.decreases-block_behind
 decreases-block_behind l = 64 * length l.self.now.rest.now + 55
@@ -152,29 +140,14 @@ decreases-initialiser l = 64 * length l.self.now.rest.now + 54
 abbrev pub decreases-inner_statement : goal.decreases-inner_statement
 decreases-inner_statement l = 64 * length l.self.now.rest.now + 44
 
-abbrev pub decreases-inside : goal.decreases-inside
-decreases-inside l = 64 * length l.self.now.rest.now + (11 + looseness l.level)
-
 abbrev pub decreases-left_hand_side : goal.decreases-left_hand_side
 decreases-left_hand_side l = 64 * length l.self.now.rest.now + 8
-
-abbrev pub decreases-logical_and : goal.decreases-logical_and
-decreases-logical_and l = 64 * length l.self.now.rest.now + 31
-
-abbrev pub decreases-logical_or : goal.decreases-logical_or
-decreases-logical_or l = 64 * length l.self.now.rest.now + 33
 
 abbrev pub decreases-member : goal.decreases-member
 decreases-member l = 64 * length l.self.now.rest.now + 8
 
-abbrev pub decreases-more_and : goal.decreases-more_and
-decreases-more_and l = 64 * length l.self.now.rest.now + 2
-
 abbrev pub decreases-more_arguments : goal.decreases-more_arguments
 decreases-more_arguments l = 64 * length l.self.now.rest.now + 40
-
-abbrev pub decreases-more_binary : goal.decreases-more_binary
-decreases-more_binary l = 64 * length l.self.now.rest.now + 2
 
 abbrev pub decreases-more_cases : goal.decreases-more_cases
 decreases-more_cases l = 64 * length l.self.now.rest.now + 1
@@ -199,9 +172,6 @@ decreases-more_items l = 64 * length l.self.now.rest.now + 40
 
 abbrev pub decreases-more_members : goal.decreases-more_members
 decreases-more_members l = 64 * length l.self.now.rest.now + 2
-
-abbrev pub decreases-more_or : goal.decreases-more_or
-decreases-more_or l = 64 * length l.self.now.rest.now + 2
 
 abbrev pub decreases-more_statements : goal.decreases-more_statements
 decreases-more_statements l = 64 * length l.self.now.rest.now + 48
@@ -271,3 +241,15 @@ decreases-var_behind l = 64 * length l.self.now.rest.now + 55
 
 abbrev pub decreases-while_behind : goal.decreases-while_behind
 decreases-while_behind l = 64 * length l.self.now.rest.now + 55
+
+abbrev pub decreases-operation : goal.decreases-operation
+decreases-operation l = 64 * length l.self.now.rest.now + 33
+
+abbrev pub invariant-operation-operand : goal.invariant-operation-operand
+invariant-operation-operand l = record {
+  same : going_on l.allows_in l.open.items l.left (rest_of l.self) ≡ E.logical_or grammar l.allows_in (rest_of l.fn.self);
+  less : length l.self.rest.now < length l.fn.self.rest.now;
+}
+
+abbrev pub decreases-operation-operand : goal.decreases-operation-operand
+decreases-operation-operand l = 2 * length l.self.rest.now + length l.open.items
