@@ -1,3 +1,3 @@
 pub mod Laws
 pub mod Next
-pub mod Stack
+pub mod Steps

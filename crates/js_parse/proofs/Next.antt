@@ -1,34 +1,31 @@
 -- A production that goes by its next token.
-use Rattle.std.proofs.Common.{◌≡◌, Bool, true, false, refl, subst}
+use Rattle.std.proofs.Common.{◌≡◌, Bool, true, false, refl, ◌∙◌}
 use Rattle.std.specs.Prelude.{Option, Some, None, Result, Ok, Err, is_some}
-use Rattle.js_tree.specs.declared.refusal.ReadRefused.{ReadRefused}
 use Rattle.js_tree.specs.declared.token.TokenForm.{TokenForm}
 use Rattle.js_grammar.specs.Rest.{Rest, Reading, next, of_first, passed}
-use Rattle.js_parse.specs.Reader.{taken, IsAnswer, IsTaken}
+use Rattle.js_parse.specs.Reader.{taken, IsTaken}
 
-module _ {B : Type 0} (want : TokenForm → Option (Unit {0})) (f : Unit {0} → Reading B) (m : Reading B) where
-  -- the answer where the next token is that, or another
-  at_that : (s u : Rest) (r : Result B ReadRefused) → of_first want s.tokens ≡ Some tt → IsAnswer (f tt) (passed s) u r → IsAnswer (next want f m) s u r
+module _ {A B : Type 0} (want : TokenForm → Option A) (f : A → Reading B) (m : Reading B) where
+  pub next_some : (s : Rest) (a : A) → of_first want s.tokens ≡ Some a → next want f m s ≡ f a (passed s)
   unfolding next
-  at_that s u (Ok b) e h = rw e h
-  at_that s u (Err d) e h = λ memory. rw e (h memory)
+  next_some s a e = rw e refl
 
-  at_another : (s u : Rest) (r : Result B ReadRefused) → of_first want s.tokens ≡ None → IsAnswer m s u r → IsAnswer (next want f m) s u r
+  pub next_none : (s : Rest) → of_first want s.tokens ≡ None → next want f m s ≡ m s
   unfolding next
-  at_another s u (Ok b) e h = rw e h
-  at_another s u (Err d) e h = λ memory. rw e (h memory)
+  next_none s e = rw e refl
 
-  pub there : (b : Bool) (s t u : Rest) (r : Result B ReadRefused) → IsTaken want s t (taken b) → b ≡ true → IsAnswer (f tt) t u r → IsAnswer (next want f m) s u r
-  there true s t u r is sure h = at_that s u r is.0 (subst (λ x. IsAnswer (f tt) x u r) is.1 h)
-  there false s t u r is sure h = absurd (cc)
-
-  pub absent : (b : Bool) (s t u : Rest) (r : Result B ReadRefused) → IsTaken want s t (taken b) → b ≡ false → IsAnswer m t u r → IsAnswer (next want f m) s u r
-  absent true s t u r is other h = absurd (cc)
-  absent false s t u r is other h = at_another s u r is.0 (subst (λ x. IsAnswer m x u r) is.1 h)
-
-  none : (o : Option (Unit {0})) → is_some o ≡ false → o ≡ None
+  none : (o : Option A) → is_some o ≡ false → o ≡ None
   none None e = refl
   none (Some x) e = absurd (cc)
 
-  pub not_seen : (s u : Rest) (r : Result B ReadRefused) → is_some (of_first want s.tokens) ≡ false → IsAnswer m s u r → IsAnswer (next want f m) s u r
-  not_seen s u r other h = at_another s u r (none (of_first want s.tokens) other) h
+  pub not_seen : (s : Rest) → is_some (of_first want s.tokens) ≡ false → next want f m s ≡ m s
+  not_seen s other = next_none s (none (of_first want s.tokens) other)
+
+module _ {B : Type 0} (want : TokenForm → Option (Unit {0})) (f : Unit {0} → Reading B) (m : Reading B) where
+  pub there : (b : Bool) (s t : Rest) → IsTaken want s t (taken b) → b ≡ true → next want f m s ≡ f tt t
+  there true s t is sure = rw (is.1) (next_some want f m s tt is.0)
+  there false s t is sure = absurd (cc)
+
+  pub absent : (b : Bool) (s t : Rest) → IsTaken want s t (taken b) → b ≡ false → next want f m s ≡ m t
+  absent true s t is other = absurd (cc)
+  absent false s t is other = rw (is.1) (next_none want f m s is.0)

@@ -1,5 +1,5 @@
--- Operators that wait for their right side, and what a reader with such operators goes on with.
-use Rattle.std.specs.Prelude.{ℕ, Option, Some, None}
+-- Operators with two operands, as the grammar finds them.
+use Rattle.std.specs.Prelude.{ℕ}
 use Rattle.js_tree.specs.declared.expression.Expr.{Expr}
 use Rattle.js_tree.specs.declared.expression.ExprForm.{ExprForm}
 use Rattle.js_tree.specs.declared.expression.ExprForm.TheVariants as e
@@ -8,7 +8,6 @@ use Rattle.js_parse.specs.declared.operators.Level.{Level}
 use Rattle.js_parse.specs.declared.operators.Level.TheVariants as level
 use Rattle.js_parse.specs.declared.operators.Operator.{Operator}
 use Rattle.js_parse.specs.declared.operators.Operator.TheVariants as operator
-use Rattle.js_parse.specs.declared.expressions.Open.{Open}
 
 -- how many levels are no tighter
 abbrev pub number : Level → ℕ
@@ -30,8 +29,3 @@ form_of (operator.Logic op) = λ a b. e.Logic op a b
 
 abbrev pub found_of : Operator × Level → Found
 found_of x = record { form = form_of x.0; level = number x.1 }
-
--- the level that the right side of the last open operator has to pass
-abbrev pub least_after : Option Open → Level
-least_after None = level.Any
-least_after (Some f) = f.level

@@ -2,3 +2,4 @@ pub mod Reader
 pub mod Within
 pub mod Levels
 pub mod Headers
+pub mod Frames

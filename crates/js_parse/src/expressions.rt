@@ -1,14 +1,15 @@
 //! Expressions (11.3 to 11.14), from loose to tight.
 
-ghost use Rattle.std.specs.Prelude.{◌≡◌, ◌<◌, ◌≤◌, ◌-◌, Some, length, slice_get, IfOk};
+ghost use Rattle.std.specs.Prelude.{◌≡◌, ◌<◌, ◌≤◌, Some, length, IfOk, IfSome};
 ghost use Rattle.js_grammar.specs.Expressions as spec;
 ghost use Rattle.js_grammar.specs.Primary as primary;
 ghost use Rattle.js_grammar.specs.Reading.{grammar};
-ghost use Rattle.js_grammar.specs.Rest.{finish, part, repeat};
-ghost use Rattle.js_parse.specs.Levels.{form_of, least_after};
+ghost use Rattle.js_grammar.specs.Rest.{part, repeat};
+ghost use Rattle.js_parse.specs.Frames as frames;
+ghost use Rattle.js_parse.specs.Frames.{IsPart};
 ghost use Rattle.js_parse.specs.Reader.{rest_of, IsAnswer};
 
-use crate::operators::{Level, Operator, postfix};
+use crate::operators::postfix;
 use crate::reader::Reader;
 use js_tree::{Expr, ExprForm, Feature, Punctuator, ReadRefused, StepOp, Token};
 use js_value::{BinaryOp, Place, UnaryOp};
@@ -50,24 +51,6 @@ fn is_postfix(token: &Token) -> bool
     }
 }
 
-/// An operator with its left side, whose right side is being read.
-#[derive(Debug, Drop)]
-pub struct Open {
-    pub left: Expr,
-    pub op: Operator,
-    pub level: Level,
-}
-
-/// The level that an operator has to pass to belong to the right side of the last open one.
-fn least(open: &[Open]) -> Level
-    ensures { result ≡ least_after (slice_get open.now (length open.now - 1)) }
-{
-    match open.last() {
-        Some(last) => last.level,
-        None => Level::Any,
-    }
-}
-
 impl<'a> Reader<'a> {
     /// Whether the token directly before is a postfix operator.
     pub fn is_behind_postfix(&self) -> bool
@@ -94,27 +77,42 @@ impl<'a> Reader<'a> {
     /// Expressions behind commas.
     #[cycle(reading)]
     #[tactic(auto, using(js_grammar::proofs::Unrolled::commas_unroll), unfolding(js_grammar::specs::Rest::next))]
-    pub fn more_commas(&mut self, allows_in: bool, left: Expr) -> Result<Expr, ReadRefused>
+    pub fn more_commas(
+        &mut self,
+        allows_in: bool,
+        mut left: Expr,
+    ) -> Result<Expr, ReadRefused>
         ensures answer { IsAnswer (repeat (primary.more_commas grammar allows_in) left) (rest_of self.old) (rest_of self.new) result }
         ensures within { length self.new.rest.now ≤ length self.old.rest.now }
     {
-        if !self.take(Punctuator::Comma) {
-            return Ok(left);
+        'turn: loop {
+            if !self.take(Punctuator::Comma) {
+                return Ok(left);
+            }
+            let right = self.assignment(allows_in)?;
+            left = self.finish(left.at, ExprForm::Comma(left, right))?;
         }
-        let right = self.assignment(allows_in)?;
-        let both = self.finish(left.at, ExprForm::Comma(left, right))?;
-        self.more_commas(allows_in, both)
     }
 
     /// An assignment, or a tighter expression (11.13).
     #[cycle(reading)]
-    #[tactic(auto, using(js_grammar::proofs::Unrolled::assignment_tied), unfolding(js_grammar::specs::Rest::next, js_grammar::specs::Expressions::assignment))]
+    #[tactic(auto, using(js_grammar::proofs::Unrolled::assignment_tied), unfolding(js_grammar::specs::Expressions::assignment))]
     pub fn assignment(&mut self, allows_in: bool) -> Result<Expr, ReadRefused>
         ensures answer { IsAnswer (grammar.assignment allows_in) (rest_of self.old) (rest_of self.new) result }
         ensures left { IfOk result (λ _. length self.new.rest.now < length self.old.rest.now) }
         ensures within { length self.new.rest.now ≤ length self.old.rest.now }
     {
         let x = self.conditional(allows_in)?;
+        self.perhaps_assigned(allows_in, x)
+    }
+
+    /// The operator of an assignment and its value behind the target, where there are some (11.13).
+    #[cycle(reading)]
+    #[tactic(auto, unfolding(js_grammar::specs::Rest::next))]
+    pub fn perhaps_assigned(&mut self, allows_in: bool, x: Expr) -> Result<Expr, ReadRefused>
+        ensures answer { IsAnswer (frames.assigned allows_in x) (rest_of self.old) (rest_of self.new) result }
+        ensures within { length self.new.rest.now ≤ length self.old.rest.now }
+    {
         if self.begins_line() && self.is_behind_postfix() {
             return Ok(x);
         }
@@ -147,13 +145,23 @@ impl<'a> Reader<'a> {
 
     /// A conditional, or a tighter expression (11.12).
     #[cycle(reading)]
-    #[tactic(auto, unfolding(js_grammar::specs::Rest::next, js_grammar::specs::Expressions::conditional))]
+    #[tactic(auto, unfolding(js_grammar::specs::Expressions::conditional))]
     pub fn conditional(&mut self, allows_in: bool) -> Result<Expr, ReadRefused>
         ensures answer { IsAnswer (spec.conditional grammar allows_in) (rest_of self.old) (rest_of self.new) result }
         ensures left { IfOk result (λ _. length self.new.rest.now < length self.old.rest.now) }
         ensures within { length self.new.rest.now ≤ length self.old.rest.now }
     {
         let test = self.operation(allows_in)?;
+        self.chosen(allows_in, test)
+    }
+
+    /// The branches of a conditional behind its test, where there are some (11.12).
+    #[cycle(reading)]
+    #[tactic(auto, unfolding(js_grammar::specs::Rest::next))]
+    pub fn chosen(&mut self, allows_in: bool, test: Expr) -> Result<Expr, ReadRefused>
+        ensures answer { IsAnswer (frames.chosen allows_in test) (rest_of self.old) (rest_of self.new) result }
+        ensures within { length self.new.rest.now ≤ length self.old.rest.now }
+    {
         if !self.take(Punctuator::Question) {
             return Ok(test);
         }
@@ -176,56 +184,38 @@ impl<'a> Reader<'a> {
         Ok(x)
     }
 
-    /// An operator with its two operands.
-    fn joined(&self, open: Open, right: Expr) -> Result<Expr, ReadRefused>
-        ensures { IsAnswer (finish open.left.at (form_of open.op open.left right)) (rest_of self.now) (rest_of self.now) result }
-    {
-        let Open { left, op, .. } = open;
-        match op {
-            Operator::Binary(op) => self.finish(left.at, ExprForm::Binary(op, left, right)),
-            Operator::Logic(op) => self.finish(left.at, ExprForm::Logic(op, left, right)),
-        }
-    }
-
-    /// Operands with operators that group to the left (11.5 to 11.11), by a stack of those whose right side is being read.
+    /// A prefix operator with its operand (11.4), where one comes next.
     #[cycle(reading)]
-    pub fn operation(&mut self, allows_in: bool) -> Result<Expr, ReadRefused>
-        ensures answer { IsAnswer (spec.logical_or grammar allows_in) (rest_of self.old) (rest_of self.new) result }
-        ensures left { IfOk result (λ _. length self.new.rest.now < length self.old.rest.now) }
+    #[tactic(auto, unfolding(js_grammar::specs::Rest::next, js_grammar::specs::Expressions::unary))]
+    pub fn prefixed(&mut self) -> Result<Option<Expr>, ReadRefused>
+        ensures answer { IsPart (spec.unary grammar) (spec.postfix grammar) (rest_of self.old) (rest_of self.new) result }
+        ensures left { IfOk result (λ found. IfSome found (λ _. length self.new.rest.now < length self.old.rest.now)) }
         ensures within { length self.new.rest.now ≤ length self.old.rest.now }
     {
-        let mut open = Vec::new(self.alloc);
-        let mut left = self.unary()?;
-        'operand: loop {
-            if let Some((op, level)) = self.next_operator(least(open.as_slice()), allows_in) {
-                self.pass();
-                open.push(Open { left, op, level })?;
-                left = self.unary()?;
-                continue;
-            }
-            match open.pop() {
-                None => return Ok(left),
-                Some(last) => left = self.joined(last, left)?,
-            }
+        let at = self.here();
+        if let Some(op) = self.take_unary() {
+            let x = self.unary_behind(at, op)?;
+            return Ok(Some(x));
         }
+        if let Some(op) = self.take_prefix_step() {
+            let x = self.step_behind(at, op)?;
+            return Ok(Some(x));
+        }
+        Ok(None)
     }
 
     /// A prefix operator with its operand, or a tighter expression (11.4).
     #[cycle(reading)]
-    #[tactic(auto, using(js_grammar::proofs::Unrolled::unary_tied), unfolding(js_grammar::specs::Rest::next, js_grammar::specs::Expressions::unary))]
+    #[tactic(auto, using(js_grammar::proofs::Unrolled::unary_tied))]
     pub fn unary(&mut self) -> Result<Expr, ReadRefused>
         ensures answer { IsAnswer grammar.unary (rest_of self.old) (rest_of self.new) result }
         ensures left { IfOk result (λ _. length self.new.rest.now < length self.old.rest.now) }
         ensures within { length self.new.rest.now ≤ length self.old.rest.now }
     {
-        let at = self.here();
-        if let Some(op) = self.take_unary() {
-            return self.unary_behind(at, op);
+        match self.prefixed()? {
+            Some(x) => Ok(x),
+            None => self.postfix(),
         }
-        if let Some(op) = self.take_prefix_step() {
-            return self.step_behind(at, op);
-        }
-        self.postfix()
     }
 
     /// The operand of a prefix operator.
@@ -260,15 +250,12 @@ impl<'a> Reader<'a> {
         self.finish(at, ExprForm::Step(op, x))
     }
 
-    /// An operand with or without a postfix operator (11.3).
-    #[cycle(reading)]
-    #[tactic(auto, unfolding(js_grammar::specs::Rest::next, js_grammar::specs::Expressions::postfix))]
-    pub fn postfix(&mut self) -> Result<Expr, ReadRefused>
-        ensures answer { IsAnswer (spec.postfix grammar) (rest_of self.old) (rest_of self.new) result }
-        ensures left { IfOk result (λ _. length self.new.rest.now < length self.old.rest.now) }
+    /// A postfix operator behind an operand, where there is one (11.3).
+    #[tactic(auto, unfolding(js_grammar::specs::Rest::next))]
+    pub fn stepped(&mut self, x: Expr) -> Result<Expr, ReadRefused>
+        ensures answer { IsAnswer (frames.stepped x) (rest_of self.old) (rest_of self.new) result }
         ensures within { length self.new.rest.now ≤ length self.old.rest.now }
     {
-        let x = self.left_hand_side()?;
         if self.begins_line() {
             return Ok(x);
         }

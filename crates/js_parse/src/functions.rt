@@ -92,13 +92,14 @@ impl<'a> Reader<'a> {
         ensures answer { IsAnswer (repeat spec.more_parameters so_far) (rest_of self.old) (rest_of self.new) result }
         ensures within { length self.new.rest.now ≤ length self.old.rest.now }
     {
-        let name = self.declared_name()?;
-        so_far.push(name)?;
-        if self.take(Punctuator::Comma) {
-            return self.more_parameters(so_far);
+        'turn: loop {
+            let name = self.declared_name()?;
+            so_far.push(name)?;
+            if !self.take(Punctuator::Comma) {
+                self.expect(Punctuator::RightParenthesis)?;
+                return Ok(so_far);
+            }
         }
-        self.expect(Punctuator::RightParenthesis)?;
-        Ok(so_far)
     }
 
     /// The parameters of a function, up to the parenthesis that closes (13).
@@ -225,17 +226,19 @@ impl<'a> Reader<'a> {
         &mut self,
         closer: Closer,
         mut so_far: Stmts,
-        leads: bool,
+        mut leads: bool,
     ) -> Result<Stmts, ReadRefused>
         ensures answer { IsAnswer (repeat (spec.more_elements grammar (closed_by closer)) (so_far, leads)) (rest_of self.old) (rest_of self.new) result }
         ensures within { length self.new.rest.now ≤ length self.old.rest.now }
     {
-        if self.is_closed(closer) {
-            return Ok(so_far);
+        'turn: loop {
+            if self.is_closed(closer) {
+                return Ok(so_far);
+            }
+            let (t, is_directive) = self.element_behind(leads)?;
+            so_far.push(t)?;
+            leads = is_directive;
         }
-        let (t, is_directive) = self.element_behind(leads)?;
-        so_far.push(t)?;
-        self.more_elements(closer, so_far, is_directive)
     }
 
     /// A body in its braces (13).

@@ -6,12 +6,16 @@ ghost use Rattle.js_tree.specs.Refusals.{Gives};
 
 mod ends;
 mod expressions;
+mod frames;
 mod functions;
 mod heights;
 mod operators;
 mod primary;
 mod reader;
+mod stack;
 mod statements;
+#[cfg(test)]
+mod size_tests;
 #[cfg(test)]
 mod tests;
 mod tokens;

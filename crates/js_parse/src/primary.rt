@@ -5,13 +5,15 @@ ghost use Rattle.js_grammar.specs.Marks as marks;
 ghost use Rattle.js_grammar.specs.Primary as spec;
 ghost use Rattle.js_grammar.specs.Reading.{grammar};
 ghost use Rattle.js_grammar.specs.Rest.{of_first, repeat};
+ghost use Rattle.js_parse.specs.Frames.{IsFirst};
 ghost use Rattle.js_parse.specs.Reader.{rest_of, IsAnswer};
 
+use crate::frames::First;
 use crate::functions::Params;
 use crate::reader::Reader;
 use crate::words::{barred, is_abstract, is_residual, is_spelled};
 use js_tree::{
-    Elements, Expr, ExprForm, Exprs, Feature, Field, Fields, Keyword, Punctuator, ReadRefused,
+    Elements, Expr, ExprForm, Exprs, Feature, Field, Keyword, Punctuator, ReadRefused,
     Token, TokenForm,
 };
 use js_value::{Kind, Place, Seq, Text};
@@ -111,7 +113,7 @@ impl<'a> Reader<'a> {
     }
 
     /// Whether `get` or `set` comes next.
-    fn sees_accessor(&self, word: &[u8]) -> bool
+    pub fn sees_accessor(&self, word: &[u8]) -> bool
         ensures { result ≡ is_some (of_first (marks.accessor_word word.now) self.now.rest.now) }
     {
         match self.rest.first() {
@@ -126,7 +128,7 @@ impl<'a> Reader<'a> {
     }
 
     /// Whether the token behind the next one names a property.
-    fn sees_property_second(&self) -> bool
+    pub fn sees_property_second(&self) -> bool
         ensures { result ≡ is_some (of_first marks.property_name (drop 1 self.now.rest.now)) }
     {
         match self.rest.get(1) {
@@ -143,51 +145,24 @@ impl<'a> Reader<'a> {
 
     // ---- primary expressions, members and calls
 
-    /// An expression that takes calls (11.2).
-    #[cycle(reading)]
-    #[tactic(auto, unfolding(js_grammar::specs::Primary::left_hand_side))]
-    pub fn left_hand_side(&mut self) -> Result<Expr, ReadRefused>
-        ensures answer { IsAnswer (spec.left_hand_side grammar) (rest_of self.old) (rest_of self.new) result }
-        ensures left { IfOk result (λ _. length self.new.rest.now < length self.old.rest.now) }
-        ensures within { length self.new.rest.now ≤ length self.old.rest.now }
-    {
-        let left = self.operand()?;
-        self.more_members(true, left)
-    }
-
-    /// What `new` takes for its callee (11.2).
-    #[cycle(reading)]
-    #[tactic(auto, using(js_grammar::proofs::Unrolled::member_tied), unfolding(js_grammar::specs::Primary::member))]
-    pub fn member(&mut self) -> Result<Expr, ReadRefused>
-        ensures answer { IsAnswer grammar.member (rest_of self.old) (rest_of self.new) result }
-        ensures left { IfOk result (λ _. length self.new.rest.now < length self.old.rest.now) }
-        ensures within { length self.new.rest.now ≤ length self.old.rest.now }
-    {
-        let left = self.operand()?;
-        self.more_members(false, left)
-    }
-
     /// Members and calls behind an expression.
     #[cycle(reading)]
     #[tactic(auto, using(js_grammar::proofs::Unrolled::members_unroll), unfolding(js_grammar::specs::Rest::next))]
-    pub fn more_members(&mut self, calls: bool, left: Expr) -> Result<Expr, ReadRefused>
+    pub fn more_members(&mut self, calls: bool, mut left: Expr) -> Result<Expr, ReadRefused>
         ensures answer { IsAnswer (repeat (spec.more_members grammar calls) left) (rest_of self.old) (rest_of self.new) result }
         ensures within { length self.new.rest.now ≤ length self.old.rest.now }
     {
-        if self.take(Punctuator::Dot) {
-            let x = self.dotted_behind(left)?;
-            return self.more_members(calls, x);
+        'turn: loop {
+            if self.take(Punctuator::Dot) {
+                left = self.dotted_behind(left)?;
+            } else if self.take(Punctuator::LeftBracket) {
+                left = self.index_behind(left)?;
+            } else if calls && self.take(Punctuator::LeftParenthesis) {
+                left = self.call_behind(left)?;
+            } else {
+                return Ok(left);
+            }
         }
-        if self.take(Punctuator::LeftBracket) {
-            let x = self.index_behind(left)?;
-            return self.more_members(calls, x);
-        }
-        if calls && self.sees(Punctuator::LeftParenthesis) {
-            self.expect(Punctuator::LeftParenthesis)?;
-            let x = self.call_behind(left)?;
-            return self.more_members(calls, x);
-        }
-        Ok(left)
     }
 
     /// The name of a member, behind its dot (11.2.1).
@@ -248,82 +223,71 @@ impl<'a> Reader<'a> {
         ensures answer { IsAnswer (repeat (spec.more_arguments grammar) so_far) (rest_of self.old) (rest_of self.new) result }
         ensures within { length self.new.rest.now ≤ length self.old.rest.now }
     {
-        let x = self.assignment(true)?;
-        so_far.push(x)?;
-        if self.take(Punctuator::Comma) {
-            return self.more_arguments(so_far);
+        'turn: loop {
+            let x = self.assignment(true)?;
+            so_far.push(x)?;
+            if !self.take(Punctuator::Comma) {
+                self.expect(Punctuator::RightParenthesis)?;
+                return Ok(so_far);
+            }
         }
-        self.expect(Punctuator::RightParenthesis)?;
-        Ok(so_far)
     }
 
-    /// The callee of `new`, and its arguments (11.2.2).
-    #[cycle(reading)]
-    #[tactic(auto, unfolding(js_grammar::specs::Rest::next, js_grammar::specs::Primary::new_behind))]
-    pub fn new_behind(&mut self, at: Place) -> Result<Expr, ReadRefused>
-        ensures answer { IsAnswer (spec.new_behind grammar at) (rest_of self.old) (rest_of self.new) result }
-        ensures within { length self.new.rest.now ≤ length self.old.rest.now }
-    {
-        let callee = self.member()?;
-        if self.take(Punctuator::LeftParenthesis) {
-            let args = self.arguments_behind()?;
-            return self.finish(at, ExprForm::New(callee, args));
-        }
-        let none = Seq::new(self.alloc);
-        self.finish(at, ExprForm::New(callee, none))
-    }
-
-    /// A primary expression, or `new` (11.1).
+    /// A primary expression (11.1), or the beginning of a `new` or of an object literal.
     #[cycle(reading)]
     #[tactic(auto, unfolding(js_grammar::specs::Rest::next))]
-    pub fn operand(&mut self) -> Result<Expr, ReadRefused>
-        ensures answer { IsAnswer (spec.operand grammar) (rest_of self.old) (rest_of self.new) result }
+    pub fn operand(&mut self) -> Result<First, ReadRefused>
+        ensures answer { IsFirst (spec.operand grammar) (rest_of self.old) (rest_of self.new) result }
         ensures left { IfOk result (λ _. length self.new.rest.now < length self.old.rest.now) }
         ensures within { length self.new.rest.now ≤ length self.old.rest.now }
     {
         let at = self.here();
         if self.sees_word(Keyword::Function) {
-            return self.function_here(at);
+            let x = self.function_here(at)?;
+            return Ok(First::Whole(x));
         }
         if let Some(form) = self.take_literal()? {
-            return self.finish(at, form);
+            let x = self.finish(at, form)?;
+            return Ok(First::Whole(x));
         }
         if let Some(text) = self.take_name()? {
-            return self.named_behind(at, text);
+            let x = self.named_behind(at, text)?;
+            return Ok(First::Whole(x));
         }
         self.enclosed_or_new(at)
     }
 
-    /// An array, an object or an expression in parentheses, or `new` (11.1.4 to 11.1.6).
+    /// An array or an expression in parentheses, or the beginning of an object or of a `new` (11.1.4 to 11.1.6).
     #[cycle(reading)]
     #[tactic(auto, unfolding(js_grammar::specs::Rest::next, js_grammar::specs::Primary::enclosed_or_new))]
-    pub fn enclosed_or_new(&mut self, at: Place) -> Result<Expr, ReadRefused>
-        ensures answer { IsAnswer (spec.enclosed_or_new grammar at (spec.new_behind grammar at)) (rest_of self.old) (rest_of self.new) result }
+    pub fn enclosed_or_new(&mut self, at: Place) -> Result<First, ReadRefused>
+        ensures answer { IsFirst (spec.enclosed_or_new grammar at (spec.new_behind grammar at)) (rest_of self.old) (rest_of self.new) result }
         ensures left { IfOk result (λ _. length self.new.rest.now < length self.old.rest.now) }
         ensures within { length self.new.rest.now ≤ length self.old.rest.now }
     {
         if self.take(Punctuator::LeftBracket) {
-            return self.array_behind(at);
+            let x = self.array_behind(at)?;
+            return Ok(First::Whole(x));
         }
         if self.take(Punctuator::LeftBrace) {
-            return self.object_behind(at);
+            return Ok(First::Object(at));
         }
         if self.take(Punctuator::LeftParenthesis) {
-            return self.group_behind();
+            let x = self.group_behind()?;
+            return Ok(First::Whole(x));
         }
         self.new_or_none(at)
     }
 
-    /// `new` (11.2.2), or no operand.
-    #[cycle(reading)]
+    /// The beginning of a `new` (11.2.2), or no operand.
     #[tactic(auto, unfolding(js_grammar::specs::Rest::next, js_grammar::specs::Primary::new_or_none))]
-    pub fn new_or_none(&mut self, at: Place) -> Result<Expr, ReadRefused>
-        ensures answer { IsAnswer (spec.new_or_none at (spec.new_behind grammar at)) (rest_of self.old) (rest_of self.new) result }
+    pub fn new_or_none(&mut self, at: Place) -> Result<First, ReadRefused>
+        ensures answer { IsFirst (spec.new_or_none at (spec.new_behind grammar at)) (rest_of self.old) (rest_of self.new) result }
         ensures left { IfOk result (λ _. length self.new.rest.now < length self.old.rest.now) }
         ensures within { length self.new.rest.now ≤ length self.old.rest.now }
     {
         if self.take_word(Keyword::New) {
-            return self.new_behind(at);
+            return Ok(First::New(at));
         }
         if self.sees_regular_expression() {
             return Err(ReadRefused::Unsupported(at, Feature::RegularExpression));
@@ -376,12 +340,13 @@ impl<'a> Reader<'a> {
         ensures answer { IsAnswer (repeat (spec.more_host_arguments grammar at) so_far) (rest_of self.old) (rest_of self.new) result }
         ensures within { length self.new.rest.now ≤ length self.old.rest.now }
     {
-        if !self.shape_follows(at, Feature::ResidualForm)? {
-            return Ok(so_far);
+        'turn: loop {
+            if !self.shape_follows(at, Feature::ResidualForm)? {
+                return Ok(so_far);
+            }
+            let x = self.assignment(true)?;
+            so_far.push(x)?;
         }
-        let x = self.assignment(true)?;
-        so_far.push(x)?;
-        self.more_host_arguments(at, so_far)
     }
 
     /// The elements of an array literal (11.1.4).
@@ -404,34 +369,21 @@ impl<'a> Reader<'a> {
         ensures answer { IsAnswer (repeat (spec.more_elements grammar) so_far) (rest_of self.old) (rest_of self.new) result }
         ensures within { length self.new.rest.now ≤ length self.old.rest.now }
     {
-        if self.take(Punctuator::RightBracket) {
-            return Ok(so_far);
+        'turn: loop {
+            if self.take(Punctuator::RightBracket) {
+                return Ok(so_far);
+            }
+            if self.take(Punctuator::Comma) {
+                so_far.push(None)?;
+                continue;
+            }
+            let x = self.assignment(true)?;
+            so_far.push(Some(x))?;
+            if !self.take(Punctuator::Comma) {
+                self.expect(Punctuator::RightBracket)?;
+                return Ok(so_far);
+            }
         }
-        if self.take(Punctuator::Comma) {
-            so_far.push(None)?;
-            return self.more_items(so_far);
-        }
-        let x = self.assignment(true)?;
-        so_far.push(Some(x))?;
-        if self.take(Punctuator::Comma) {
-            return self.more_items(so_far);
-        }
-        self.expect(Punctuator::RightBracket)?;
-        Ok(so_far)
-    }
-
-    /// A property with a value (11.1.5).
-    #[cycle(reading)]
-    pub fn valued(&mut self) -> Result<Field, ReadRefused>
-        ensures answer { IsAnswer (spec.valued grammar) (rest_of self.old) (rest_of self.new) result }
-        ensures left { IfOk result (λ _. length self.new.rest.now < length self.old.rest.now) }
-        ensures within { length self.new.rest.now ≤ length self.old.rest.now }
-    {
-        let at = self.here();
-        let key = self.expect_property_name()?;
-        self.expect(Punctuator::Colon)?;
-        let x = self.assignment(true)?;
-        Ok(Field::Value(at, key, x))
     }
 
     /// A getter (11.1.5).
@@ -462,54 +414,6 @@ impl<'a> Reader<'a> {
         let key = self.expect_property_name()?;
         let f = self.accessor(start, Params::One)?;
         Ok(Field::Setter(at, key, f))
-    }
-
-    /// A property of an object literal (11.1.5).
-    #[cycle(reading)]
-    #[tactic(auto, unfolding(js_grammar::specs::Primary::property))]
-    pub fn property(&mut self) -> Result<Field, ReadRefused>
-        ensures answer { IsAnswer (spec.property grammar) (rest_of self.old) (rest_of self.new) result }
-        ensures left { IfOk result (λ _. length self.new.rest.now < length self.old.rest.now) }
-        ensures within { length self.new.rest.now ≤ length self.old.rest.now }
-    {
-        let named = self.sees_property_second();
-        if self.sees_accessor(b"get") && named {
-            return self.getter();
-        }
-        if self.sees_accessor(b"set") && named {
-            return self.setter();
-        }
-        self.valued()
-    }
-
-    /// Properties behind those so far.
-    #[cycle(reading)]
-    #[tactic(auto, using(js_grammar::proofs::Unrolled::fields_unroll), unfolding(js_grammar::specs::Rest::next))]
-    pub fn more_fields(&mut self, mut so_far: Fields) -> Result<Fields, ReadRefused>
-        ensures answer { IsAnswer (repeat (spec.more_fields grammar) so_far) (rest_of self.old) (rest_of self.new) result }
-        ensures within { length self.new.rest.now ≤ length self.old.rest.now }
-    {
-        if self.take(Punctuator::RightBrace) {
-            return Ok(so_far);
-        }
-        let x = self.property()?;
-        so_far.push(x)?;
-        if self.take(Punctuator::Comma) {
-            return self.more_fields(so_far);
-        }
-        self.expect(Punctuator::RightBrace)?;
-        Ok(so_far)
-    }
-
-    /// The properties of an object literal (11.1.5).
-    #[cycle(reading)]
-    #[tactic(auto, unfolding(js_grammar::specs::Primary::object_behind))]
-    pub fn object_behind(&mut self, at: Place) -> Result<Expr, ReadRefused>
-        ensures answer { IsAnswer (spec.object_behind grammar at) (rest_of self.old) (rest_of self.new) result }
-        ensures within { length self.new.rest.now ≤ length self.old.rest.now }
-    {
-        let fields = self.more_fields(Seq::new(self.alloc))?;
-        self.finish(at, ExprForm::ObjectLit(fields))
     }
 
     /// An expression in parentheses, behind the first (11.1.6).

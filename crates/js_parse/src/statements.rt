@@ -183,13 +183,14 @@ impl<'a> Reader<'a> {
         ensures answer { IsAnswer (repeat (declarators.more_declarators grammar allows_in) so_far) (rest_of self.old) (rest_of self.new) result }
         ensures within { length self.new.rest.now ≤ length self.old.rest.now }
     {
-        if !self.take(Punctuator::Comma) {
-            return Ok(so_far);
+        'turn: loop {
+            if !self.take(Punctuator::Comma) {
+                return Ok(so_far);
+            }
+            let name = self.declared_name()?;
+            let (d, _) = self.initialiser(allows_in, name)?;
+            so_far.push(d)?;
         }
-        let name = self.declared_name()?;
-        let (d, _) = self.initialiser(allows_in, name)?;
-        so_far.push(d)?;
-        self.more_declarators(allows_in, so_far)
     }
 
     /// Declarators behind the first one.
@@ -233,12 +234,13 @@ impl<'a> Reader<'a> {
         ensures answer { IsAnswer (repeat (blocks.more_statements grammar (closed_by closer)) so_far) (rest_of self.old) (rest_of self.new) result }
         ensures within { length self.new.rest.now ≤ length self.old.rest.now }
     {
-        if self.is_closed(closer) {
-            return Ok(so_far);
+        'turn: loop {
+            if self.is_closed(closer) {
+                return Ok(so_far);
+            }
+            let t = self.inner_statement()?;
+            so_far.push(t)?;
         }
-        let t = self.inner_statement()?;
-        so_far.push(t)?;
-        self.more_statements(closer, so_far)
     }
 
     /// Statements up to what ends them (12.1).
@@ -578,25 +580,31 @@ impl<'a> Reader<'a> {
     /// Clauses behind those so far. `defaults` where one is the default.
     #[cycle(reading)]
     #[tactic(auto, using(js_grammar::proofs::Unrolled::cases_unroll), unfolding(js_grammar::specs::Rest::next))]
-    pub fn more_cases(&mut self, mut so_far: Cases, defaults: bool) -> Result<Cases, ReadRefused>
+    pub fn more_cases(
+        &mut self,
+        mut so_far: Cases,
+        mut defaults: bool,
+    ) -> Result<Cases, ReadRefused>
         ensures answer { IsAnswer (repeat (spec.more_cases grammar) (so_far, defaults)) (rest_of self.old) (rest_of self.new) result }
         ensures within { length self.new.rest.now ≤ length self.old.rest.now }
     {
-        if self.take(Punctuator::RightBrace) {
-            return Ok(so_far);
-        }
-        if self.take_word(Keyword::Case) {
-            let case = self.tested_case()?;
+        'turn: loop {
+            if self.take(Punctuator::RightBrace) {
+                return Ok(so_far);
+            }
+            if self.take_word(Keyword::Case) {
+                let case = self.tested_case()?;
+                so_far.push(case)?;
+                continue;
+            }
+            if defaults {
+                return self.unexpected();
+            }
+            self.expect_word(Keyword::Default)?;
+            let case = self.case_behind(None)?;
             so_far.push(case)?;
-            return self.more_cases(so_far, defaults);
+            defaults = true;
         }
-        if defaults {
-            return self.unexpected();
-        }
-        self.expect_word(Keyword::Default)?;
-        let case = self.case_behind(None)?;
-        so_far.push(case)?;
-        self.more_cases(so_far, true)
     }
 
     /// `switch` (12.11).

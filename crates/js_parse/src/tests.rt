@@ -279,7 +279,7 @@ fn answer(alloc: Global, text: &[u8], limit: u32) -> Result<Script, ReadRefused>
     parse(alloc, &lex(alloc, text)?, limit)
 }
 
-fn refusal(alloc: Global, answer: Result<Script, ReadRefused>) -> Result<String, Fail> {
+pub fn refusal(alloc: Global, answer: Result<Script, ReadRefused>) -> Result<String, Fail> {
     let mut out = String::new(alloc);
     match answer {
         Ok(_) => {}
