@@ -1,6 +1,8 @@
 //! The values of the language as data: strings, whole numbers, primitives, and the lists and boxes that trees are made of.
 #![tactic(auto)]
 
+ghost use Rattle.js_value.specs.OperatorCases.{OperatorCases};
+
 mod boxed;
 mod memory;
 mod number;
@@ -29,3 +31,9 @@ pub type Texts = Seq<Text>;
 
 /// A list of primitives.
 pub type Prims = Seq<Primitive>;
+
+/// Cases of the conversions (9) and of the operators on values that are no objects (11), worked out by hand.
+#[tactic(auto, using(crate::proofs::OperatorCases::operator_cases))]
+pub fn operator_cases()
+    ensures { OperatorCases }
+{}
