@@ -1,0 +1,5 @@
+pub mod Values
+pub mod Heap
+pub mod Methods
+pub mod Valid
+pub mod MethodCases
