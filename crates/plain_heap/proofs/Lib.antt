@@ -1,1 +1,2 @@
 pub mod MethodCases
+pub mod Properties

@@ -2,4 +2,5 @@ pub mod Values
 pub mod Heap
 pub mod Methods
 pub mod Valid
+pub mod Laws
 pub mod MethodCases

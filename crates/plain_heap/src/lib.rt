@@ -2,10 +2,19 @@
 //! (8.12, 15.4.5).
 #![tactic(auto)]
 
+ghost use Rattle.plain_heap.specs.Laws.{DeletesProperties, SetsProperties};
 ghost use Rattle.plain_heap.specs.MethodCases.{MethodCases};
 
 /// Cases of the internal methods and of valid heaps, worked out by hand.
 #[tactic(auto, using(crate::proofs::MethodCases::method_cases))]
 pub fn method_cases()
     ensures { MethodCases }
+{}
+
+/// Laws of properties, for every object: one that is set is there and changes no other, and one that was deleted isn't there and
+/// comes last when it is made again (8.6.1, 8.12).
+#[tactic(auto, using(crate::proofs::Properties::sets_properties, crate::proofs::Properties::deletes_properties))]
+pub fn property_laws()
+    ensures sets { SetsProperties }
+    ensures deletes { DeletesProperties }
 {}
