@@ -4,3 +4,4 @@ pub mod Lexing
 pub mod Reading
 pub mod Running
 pub mod Spelled
+pub mod MachineCases

@@ -3,3 +3,5 @@ pub mod Simple
 pub mod Runs
 pub mod Listing
 pub mod Readable
+pub mod Machine
+pub mod MachineCases

@@ -1,0 +1,13 @@
+pub mod Trees
+pub mod Numbers
+pub mod Operators
+pub mod Objects
+pub mod Names
+pub mod Expressions
+pub mod Statements
+pub mod Functions
+pub mod ObjectBuiltins
+pub mod ArrayBuiltins
+pub mod Realm
+pub mod Levels
+pub mod Walks

@@ -1,0 +1,134 @@
+-- What a run does, one event after another, and how runs are put together.
+use Rattle.std.specs.Prelude.{ℕ, zero, suc, Bool, true, false, List, [], ◌∷◌, Result, Ok, Err}
+use Rattle.js_value.specs.declared.place.Place.{Place}
+use Rattle.js_value.specs.declared.primitive.Kind.{Kind}
+use Rattle.js_value.specs.declared.why.Why.{Why}
+use Rattle.plain_heap.specs.Values.{Value}
+use Rattle.plain_heap.specs.Heap.{Heap}
+
+-- where a symbol stands though a known value must stand there: as the base of a property, as its key, as the length of an array or
+-- of what is like one, or as another number that a built-in takes
+pub data Need : Type 0 where
+  Base : Need
+  Key : Need
+  Length : Need
+  Argument : Need
+
+pub data Tree : Type 0 where
+  -- the evaluation of a node begins
+  Step : Place → Tree → Tree
+  -- a turn of a built-in begins
+  Turn : Place → Tree → Tree
+  -- whether a symbol is true (9.2)
+  Ask : Place → Value → (Bool → Tree) → Tree
+  -- the value of the input of this kind and name
+  Input : Place → Kind → List ℕ → (Value → Tree) → Tree
+  -- the answer to a host call: the kind that it is to have, the name, and the arguments
+  Call : Place → Kind → List ℕ → List Value → (Value → Tree) → Tree
+  -- the run leaves the profile
+  Leave : Why → Place → Tree
+  -- a symbol stands where it can't
+  Needs : Need → Place → Tree
+  -- a loop has had as many turns as were allowed for
+  Spent : Tree
+  -- the code ends
+  End : Heap → Tree
+  -- the code throws
+  Fail : Value → Heap → Tree
+
+-- A run goes from a heap to what comes after its answer or after what it throws.
+abbrev pub Run : Type 0 → Type 0
+Run A = Heap → (A → Heap → Tree) → (Value → Heap → Tree) → Tree
+
+infixl 20 ◌>>=◌
+abbrev pub ◌>>=◌ : {A B : Type 0} → Run A → (A → Run B) → Run B
+◌>>=◌ m next = λ s k h. m s (λ a s. next a s k h) h
+
+abbrev pub give : {A : Type 0} → A → Run A
+give a = λ s k h. k a s
+
+abbrev pub throw : {A : Type 0} → Value → Run A
+throw v = λ s k h. h v s
+
+abbrev pub leave : {A : Type 0} → Why → Place → Run A
+leave why at = λ s k h. Leave why at
+
+abbrev pub need : {A : Type 0} → Need → Place → Run A
+need what at = λ s k h. Needs what at
+
+abbrev pub spent : {A : Type 0} → Run A
+spent = λ s k h. Spent
+
+-- ---- the heap
+
+abbrev pub change : (Heap → Heap) → Run (Unit {0})
+change f = λ s k h. k tt (f s)
+
+abbrev pub look : {A : Type 0} → (Heap → A) → Run A
+look f = λ s k h. k (f s) s
+
+-- ---- events
+
+abbrev pub step : {A : Type 0} → Place → Run A → Run A
+step at m = λ s k h. Step at (m s k h)
+
+abbrev pub turn : Place → Run (Unit {0})
+turn at = λ s k h. Turn at (k tt s)
+
+abbrev pub ask : Place → Value → Run Bool
+ask at v = λ s k h. Ask at v (λ b. k b s)
+
+abbrev pub take_input : Place → Kind → List ℕ → Run Value
+take_input at kind name = λ s k h. Input at kind name (λ v. k v s)
+
+abbrev pub call_host : Place → Kind → List ℕ → List Value → Run Value
+call_host at kind name arguments = λ s k h. Call at kind name arguments (λ v. k v s)
+
+-- ---- choices
+
+abbrev pub choose : {A : Type 0} → Bool → Run A → Run A → Run A
+choose true m n = m
+choose false m n = n
+
+abbrev pub or_leave : {A : Type 0} → Place → Result A Why → Run A
+or_leave at (Ok a) = give a
+or_leave at (Err why) = leave why at
+
+-- ---- lists and loops
+
+-- one after another, for what they change
+abbrev pub in_turn : {A : Type 0} → (A → Run (Unit {0})) → List A → Run (Unit {0})
+in_turn f [] = give tt
+in_turn f (x ∷ xs) = do
+  _ ← f x
+  in_turn f xs
+
+-- one after another, for what they give
+abbrev pub each : {A B : Type 0} → (A → Run B) → List A → Run (List B)
+each f [] = give []
+each f (x ∷ xs) = do
+  y ← f x
+  ys ← each f xs
+  give (y ∷ ys)
+
+-- what one turn of a loop says of the loop
+pub data Next (A : Type 0) : Type 0 where
+  Again : Next A
+  Done : A → Next A
+
+abbrev pub unless_done : {A : Type 0} → Run A → Next A → Run A
+unless_done again Again = again
+unless_done again (Done a) = give a
+
+-- turns until one is the last, at most so many
+unfoldable pub repeat : {A : Type 0} → ℕ → Run (Next A) → Run A
+repeat zero once = spent
+repeat (suc k) once = do
+  t ← once
+  unless_done (repeat k once) t
+
+-- ---- what is thrown
+
+-- a thrown value goes to the handler
+abbrev pub catching : {A : Type 0} → (Value → Run A) → Run A → Run A
+catching handler m = λ s k h. m s k (λ v s. handler v s k h)
