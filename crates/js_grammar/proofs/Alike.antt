@@ -38,6 +38,10 @@ pub record Setting : Type 1 where
   pub finishes : (functions : List Func) (x : Expr) → Tests excused x.at (exprs functions x) (more_exprs functions x)
   pub ends : (functions : List Func) (t : Stmt) → Tests excused t.at (stmts functions t) (more_stmts functions t)
 
+-- tokens that are skipped are dropped
+pub skipped : (j : ℕ) (ts : List Token) → j ≤ length ts → drop (length ts - length (drop j ts)) ts ≡ drop j ts
+skipped j ts within = let e : length ts - length (drop j ts) ≡ j = omega (arith, length-drop j ts) in ap (λ n. drop n ts) e
+
 module _ (w : Setting) where
   -- what is left of the text without so many tokens
   pub record At (k : ℕ) (s : Rest) : Type 0 where
@@ -261,9 +265,6 @@ module _ (w : Setting) where
   again_skips rule zero zs = refl
   again_skips rule (suc n) [] = refl
   again_skips rule (suc n) (t ∷ ts) = again_skips rule n ts
-
-  skipped : (j : ℕ) (ts : List Token) → j ≤ length ts → drop (length ts - length (drop j ts)) ts ≡ drop j ts
-  skipped j ts within = let e : length ts - length (drop j ts) ≡ j = omega (arith, length-drop j ts) in ap (λ n. drop n ts) e
 
   behind_first_is : {A B : Type 0} (rule : (A → Reading B) → A → Reading B) (zs : List Token) (a : A) (s : Rest) (j : ℕ) → s.tokens ≡ drop (suc j) zs → suc j ≤ length zs
       → behind_first rule zs a s ≡ repeat rule a s

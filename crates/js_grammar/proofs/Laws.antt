@@ -10,9 +10,10 @@ use Rattle.js_tree.specs.declared.token.Tokens.{Tokens}
 use Rattle.js_grammar.specs.Rest.{Rest}
 use Rattle.js_grammar.specs.Heights.{is_within, is_stmt_within}
 use Rattle.js_grammar.specs.Marks
+use Rattle.js_grammar.specs.Statements as S
 use Rattle.js_grammar.specs.Reading.{grammar, script_of, beginning, read, read_by}
 use Rattle.js_grammar.specs.Laws.{Tied, Repeated, IsBehind, GoesOn, GoOn, LimitsNesting}
-use Rattle.js_grammar.proofs.Alike.{Setting, Tests, too, only, Corresponds}
+use Rattle.js_grammar.proofs.Alike.{Setting, Tests, too, only, looks, Corresponds}
 use Rattle.js_grammar.proofs.AlikeParts.{elements_too, ends_too, sees_too}
 use Rattle.js_grammar.proofs.MoreHeights.{more_within, more_stmt_within}
 use Rattle.js_grammar.proofs.Tied.{exact, grammar_too, Pick, the_assignment, the_unary, the_member, the_statement, the_element}
@@ -34,6 +35,7 @@ repeated = record {
   members = U.members_unroll;
   declarators = U.declarators_unroll;
   statements = U.statements_unroll (λ w. sees_too w Marks.right_brace);
+  case_statements = U.statements_unroll (λ w. looks w (λ r. S.starts_with_case_end grammar r.tokens) (λ r. refl));
   cases = U.cases_unroll;
 }
 

@@ -1,7 +1,6 @@
 -- The productions tied together are those of the tied ones, wherever they are used.
 use Rattle.std.proofs.Common.{◌≡◌, ℕ, zero, suc, ◌+◌, ◌-◌, ◌<◌, ◌≤◌, Bool, true, false, List, [], ◌∷◌, length, drop, refl, ap, sym, ◌∙◌, subst, arith}
 use Rattle.std.specs.Prelude.{nat_lt, Result, Ok, Err}
-use Rattle.std.proofs.lemmas.List.{length-drop}
 use Rattle.js_value.specs.declared.place.Place.{Place}
 use Rattle.js_tree.specs.declared.expression.Expr.{Expr}
 use Rattle.js_tree.specs.declared.refusal.ReadRefused.{ReadRefused}
@@ -11,7 +10,7 @@ use Rattle.js_tree.specs.declared.token.Token.{Token}
 use Rattle.js_grammar.specs.Rest.{Rest, Reading}
 use Rattle.js_grammar.specs.Functions.{Grammar}
 use Rattle.js_grammar.specs.Reading.{productions, chosen, at_the_end, grammar_on, grammar}
-use Rattle.js_grammar.proofs.Alike.{Setting, Tests, At, relaxed, too, only, Corresponds, Alike, over}
+use Rattle.js_grammar.proofs.Alike.{Setting, Tests, At, relaxed, too, only, Corresponds, Alike, over, skipped}
 use Rattle.js_grammar.proofs.AlikeParts.{Alikes, member_too}
 use Rattle.js_grammar.proofs.AlikeExpressions.{assignment_too, unary_too}
 use Rattle.js_grammar.proofs.AlikeStatements.{statement_too, element_too}
@@ -63,9 +62,6 @@ pub grammar_skips : (n : ℕ) (zs : List Token) → grammar_on n zs ≡ grammar_
 grammar_skips zero zs = refl
 grammar_skips (suc n) [] = refl
 grammar_skips (suc n) (t ∷ ts) = grammar_skips n ts
-
-skipped : (j : ℕ) (ts : List Token) → j ≤ length ts → drop (length ts - length (drop j ts)) ts ≡ drop j ts
-skipped j ts within = let e : length ts - length (drop j ts) ≡ j = omega (arith, length-drop j ts) in ap (λ n. drop n ts) e
 
 picked : {A : Type 0} (p : Pick A) (s : Rest) → p.pick grammar s ≡ p.pick (productions (behind_front s.tokens)) s
 unfolding grammar

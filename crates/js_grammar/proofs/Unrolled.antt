@@ -1,11 +1,6 @@
 -- Rules that are repeated, one turn at a time, and the productions that refer to one another.
-use Rattle.std.proofs.Common.{◌≡◌, Bool, true, false, refl, sym, arith}
-use Rattle.std.specs.Prelude.{Option}
+use Rattle.std.proofs.Common.{◌≡◌, Bool, false, refl, sym, arith}
 use Rattle.js_value.specs.declared.place.Place.{Place}
-use Rattle.js_value.specs.declared.operator.BinaryOp.{BinaryOp}
-use Rattle.js_tree.specs.declared.expression.Expr.{Expr}
-use Rattle.js_tree.specs.declared.expression.LogicOp.{LogicOp}
-use Rattle.js_tree.specs.declared.token.TokenForm.{TokenForm}
 use Rattle.js_grammar.specs.Rest.{Rest, Reading}
 use Rattle.js_grammar.specs.Laws.{Unrolls}
 use Rattle.js_grammar.specs.Functions as F
@@ -18,7 +13,6 @@ use Rattle.js_grammar.specs.Statements as S
 use Rattle.js_grammar.specs.Reading.{grammar, productions}
 use Rattle.js_grammar.proofs.Alike.{Setting, Alike, RuleAlike, unrolls}
 use Rattle.js_grammar.proofs.AlikeParts.{Alikes, further, more_parameters_too, more_elements_too, more_commas_too, more_host_arguments_too, more_items_too, more_fields_too, more_arguments_too, more_members_too}
-use Rattle.js_grammar.proofs.AlikeExpressions.{more_binary_too, more_logic_too}
 use Rattle.js_grammar.proofs.AlikeStatements.{more_declarators_too, more_statements_too, more_cases_too}
 use Rattle.js_grammar.proofs.Tied.{exact, same_answer, grammar_too, tied_pick, the_assignment, the_unary, the_member, the_statement, the_element}
 
@@ -55,12 +49,6 @@ arguments_unroll = unrolled _ (λ w. more_arguments_too w (grammar_too w))
 
 pub members_unroll : (calls : Bool) → Unrolls (P.more_members grammar calls)
 members_unroll calls = unrolled _ (λ w. more_members_too w calls (behind_one w))
-
-pub binary_unroll : (operator : TokenForm → Option BinaryOp) {tighter : Reading Expr} → ((w : Setting) → Alike w true 0 tighter tighter) → Unrolls (E.more_binary grammar operator tighter)
-binary_unroll operator t = unrolled _ (λ w. more_binary_too w operator grammar grammar (t w))
-
-pub logic_unroll : (operator : TokenForm → Option LogicOp) {tighter : Reading Expr} → ((w : Setting) → Alike w true 0 tighter tighter) → Unrolls (E.more_logic grammar operator tighter)
-logic_unroll operator t = unrolled _ (λ w. more_logic_too w operator grammar grammar (t w))
 
 pub declarators_unroll : (allows_in : Bool) → Unrolls (D.more_declarators grammar allows_in)
 declarators_unroll allows_in = unrolled _ (λ w. more_declarators_too w allows_in (grammar_too w))

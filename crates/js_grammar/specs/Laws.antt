@@ -1,5 +1,5 @@
 -- Laws of the productions, for every text.
-use Rattle.std.specs.Prelude.{◌≡◌, ◌≢◌, ◌≤◌, ℕ, Bool, List, drop, IfOk, Err}
+use Rattle.std.specs.Prelude.{◌≡◌, ◌≢◌, ◌≤◌, ℕ, Bool, List, drop, IfOk, Ok, Err}
 use Rattle.js_value.specs.declared.place.Place.{Place}
 use Rattle.js_tree.specs.declared.refusal.ReadRefused.TheVariants.{Nested}
 use Rattle.js_tree.specs.declared.token.Token.{Token}
@@ -26,7 +26,7 @@ pub record Tied : Type 0 where
 abbrev pub Unrolls : {A B : Type 0} → ((A → Reading B) → A → Reading B) → Type 0
 Unrolls {A = A} rule = (a : A) (s : Rest) → repeat rule a s ≡ rule (repeat rule) a s
 
--- ---- every repetition
+-- ---- every rule that is repeated, but those of operators with two operands: of them `Climbs` speaks
 
 pub record Repeated : Type 0 where
   pub parameters : Unrolls F.more_parameters
@@ -40,6 +40,7 @@ pub record Repeated : Type 0 where
   pub members : (calls : Bool) → Unrolls (P.more_members grammar calls)
   pub declarators : (allows_in : Bool) → Unrolls (D.more_declarators grammar allows_in)
   pub statements : Unrolls (B.more_statements grammar (sees Marks.right_brace))
+  pub case_statements : Unrolls (B.more_statements grammar (λ r. Ok (S.starts_with_case_end grammar r.tokens, r)))
   pub cases : Unrolls (S.more_cases grammar)
 
 -- ---- what is left

@@ -33,9 +33,10 @@ pub fn readable_cases()
     ensures parts { ReadablePartCases }
 {}
 
-/// Laws of the grammar, for every text: the productions tied together are those of the tied ones, a repeated rule is used
-/// once and then repeated, a production goes on behind at least one token and never back, of the operators with two operands
-/// the tightest that is allowed is taken next, and a greater limit changes only that something is nested too deep.
+/// Laws of the grammar, for every text: the five productions that others refer to are those of the tied grammar, a rule that
+/// is repeated is used once and then repeated, these five take at least one token and never go back, of the operators with
+/// two operands the tightest that is allowed is taken next, and a greater limit changes only that something is nested too
+/// deep.
 pub fn reading_laws()
     ensures tied { Tied }
     ensures repeated { Repeated }
