@@ -27,8 +27,10 @@ use js_value::Seq;
 use std::alloc::Global;
 
 /// The script of tokens before its early checks, or the first fault with its place: what can't go on, what isn't
-/// supported, or a part that is nested deeper than the limit. `NoMemory` comes only where there is no memory. It recurses
-/// for all but operators with two operands, and its time isn't bounded: it is for small texts.
+/// supported, or a part that is nested deeper than the limit. `NoMemory` comes only where there is no memory.
+///
+/// The tokens are gone over once. What is counted as nested is read by recursion, as deep as the limit allows; lists are
+/// loops, and operators, chains of `new` and nested object literals stand on a stack of their own.
 #[tactic(auto, unfolding(js_grammar::specs::Reading::read, js_grammar::specs::Reading::read_by))]
 pub fn parse(alloc: Global, tokens: &Tokens, limit: u32) -> Result<Script, ReadRefused>
     ensures { Gives (spec.read tokens.now limit) result }
