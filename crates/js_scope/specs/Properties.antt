@@ -1,11 +1,14 @@
 -- The properties of an object literal, and which of them clash with earlier ones (11.1.5).
-use Rattle.std.specs.Prelude.{◌&&◌, Bool, if◌then◌else◌, List, [], ◌∷◌}
+use Rattle.std.specs.Prelude.{◌&&◌, ◌||◌, fold, Bool, if◌then◌else◌, List, [], ◌∷◌}
 use Rattle.std.specs.List.{list_any}
 use Rattle.std.specs.Str.{bytes_eq}
 use Rattle.js_tree.specs.declared.expression.Field.{Field, out-Field}
 use Rattle.js_tree.specs.declared.expression.ExprForm.TheOpen.{Field-F}
 use Rattle.js_tree.specs.Mentions as M
 use Rattle.js_tree.specs.Mentions.{Mention, Property, clash}
+use Rattle.js_tree.specs.Simple.{is_among}
+use Rattle.js_scope.specs.Hoisting.{add}
+use Rattle.js_scope.specs.declared.properties.Seen.{Seen}
 use Rattle.js_scope.specs.declared.properties.Given.{Given}
 use Rattle.js_scope.specs.declared.properties.Given.TheVariants as given
 
@@ -33,9 +36,24 @@ clashes before p = list_any (clashes_one p) before
 abbrev pub repeat : List Property → Property → List Mention
 repeat before p = if clashes before p then M.Repeats p.0 ∷ [] else []
 
--- the same of fields
-abbrev pub clashing : List Field → Field → Bool
-clashing before field = list_any (λ other. clashes_one (property field) (property other)) before
+-- ---- by the names of the properties so far
 
-abbrev pub repeat_of : List Field → Field → List Mention
-repeat_of before field = if clashing before field then M.Repeats (property field).0 ∷ [] else []
+-- whether one of these clashes with a property
+abbrev pub clashes_with : Seen → Property → Bool
+clashes_with s (at, key, M.Valued) = is_among s.getters key || is_among s.setters key
+clashes_with s (at, key, M.Got) = is_among s.values key || is_among s.getters key
+clashes_with s (at, key, M.Set) = is_among s.values key || is_among s.setters key
+
+abbrev pub repeat_with : Seen → Property → List Mention
+repeat_with s p = if clashes_with s p then M.Repeats p.0 ∷ [] else []
+
+abbrev pub with_one : Seen → Property → Seen
+with_one s (at, key, M.Valued) = record s { values = add s.values key }
+with_one s (at, key, M.Got) = record s { getters = add s.getters key }
+with_one s (at, key, M.Set) = record s { setters = add s.setters key }
+
+abbrev pub none_seen : Seen
+none_seen = record { values = []; getters = []; setters = [] }
+
+abbrev pub seen_in : List Property → Seen
+seen_in ps = fold with_one none_seen ps

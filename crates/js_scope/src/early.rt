@@ -112,7 +112,7 @@ fn mention_fault(
 /// function (12.9), `break` and `continue` outside what they leave (12.7, 12.8), and a property given twice as a value and
 /// an accessor, or by two getters or two setters (11.1.5), are no syntax. An assignment to a function expression's own
 /// name (13), and an input that has another type at an earlier place, aren't supported. `NoMemory` comes only where there is
-/// no memory. It compares each name with all others that it keeps, and each input with all others.
+/// no memory. It compares each input with all others.
 #[tactic(auto, using(crate::proofs::Whole::checks))]
 pub fn check(alloc: Global, script: &Script) -> Result<(), ReadRefused>
     ensures { Tells (early.early_fault script.now) result }

@@ -8,24 +8,24 @@ ghost use Rattle.js_scope.specs.Mentioning as mentioning;
 
 use crate::functions::insides;
 use crate::mention::Mention;
-use crate::names::add;
+use crate::names::Names;
 use crate::walk::Walk;
 use js_tree::Script;
 use js_value::{FuncNo, NoMemory, Seq, Text};
 use std::alloc::Global;
 
 /// Adds the name that a mention has, unless it is there.
-fn add_mentioned(alloc: Global, mention: &Mention, names: &mut Seq<Text>) -> Result<(), NoMemory>
+fn add_mentioned(alloc: Global, mention: &Mention, names: &mut Names) -> Result<(), NoMemory>
     ensures { OnOk result (names.new ≡ hoisting.add_all names.old (tree.mentioned_name (mentioning.mention_of mention.now))) }
 {
     match mention {
-        Mention::Reads(_, name) | Mention::Assigns(_, name) => add(alloc, names, name),
+        Mention::Reads(_, name) | Mention::Assigns(_, name) => names.add(alloc, name),
         Mention::AssignsOwn(_) | Mention::Takes(_, _, _) | Mention::Repeats(_) => Ok(()),
     }
 }
 
 /// Adds the names that these mention, each unless it is there.
-fn add_all(alloc: Global, mentions: &[Mention], names: &mut Seq<Text>) -> Result<(), NoMemory>
+fn add_all(alloc: Global, mentions: &[Mention], names: &mut Names) -> Result<(), NoMemory>
     ensures { OnOk result (names.new ≡ hoisting.add_all names.old (flat_map tree.mentioned_name (mentioning.told mentions.now))) }
 {
     for mention in mentions {
@@ -39,9 +39,9 @@ fn add_all(alloc: Global, mentions: &[Mention], names: &mut Seq<Text>) -> Result
 fn names_of(alloc: Global, mentions: &[Mention]) -> Result<Seq<Text>, NoMemory>
     ensures { IfOk result (λ names. names ≡ tree.distinct (flat_map tree.mentioned_name (mentioning.told mentions.now))) }
 {
-    let mut names = Seq::new(alloc);
+    let mut names = Names::new(alloc);
     add_all(alloc, mentions, &mut names)?;
-    Ok(names)
+    names.texts(alloc)
 }
 
 /// The free names of a function (10.2.2): those that it or a function inside it mentions, and that no handler or function

@@ -120,7 +120,7 @@ fn inside<'a>(
     walk.in_stmts(f.body.as_slice(), &mut mentions)?;
     let names = declared(alloc, f, behind, first)?;
     let mut free = Vec::new(alloc);
-    push_unbound(names.as_slice(), mentions.as_slice(), &mut free)?;
+    push_unbound(alloc, names.as_slice(), mentions.as_slice(), &mut free)?;
     Ok(Inside {
         name: own_name(f),
         mentions: free,

@@ -6,21 +6,21 @@ ghost use Rattle.js_tree.specs.declared.statement.StmtForm.{out-StmtForm};
 ghost use Rattle.js_tree.specs.Mentions as names;
 ghost use Rattle.js_scope.specs.Hoisting as spec;
 
-use crate::names::add;
+use crate::names::Names;
 use js_tree::{Case, Catch, Declarator, Finally, ForStart, ForTarget, Script, Stmt, StmtForm};
 use js_value::{FuncNo, NoMemory, Seq, Text};
 use std::alloc::Global;
 
-fn declarators(alloc: Global, all: &[Declarator], vars: &mut Seq<Text>) -> Result<(), NoMemory>
+fn declarators(alloc: Global, all: &[Declarator], vars: &mut Names) -> Result<(), NoMemory>
     ensures { OnOk result (vars.new ≡ spec.add_all vars.old (names.declared_in all.now)) }
 {
     for d in all {
-        add(alloc, vars, &d.name)?;
+        vars.add(alloc, &d.name)?;
     }
     Ok(())
 }
 
-fn in_start(alloc: Global, from: &ForStart, vars: &mut Seq<Text>) -> Result<(), NoMemory>
+fn in_start(alloc: Global, from: &ForStart, vars: &mut Names) -> Result<(), NoMemory>
     ensures { OnOk result (vars.new ≡ spec.add_all vars.old (names.start_vars from.now)) }
 {
     match from {
@@ -29,19 +29,19 @@ fn in_start(alloc: Global, from: &ForStart, vars: &mut Seq<Text>) -> Result<(), 
     }
 }
 
-fn in_target(alloc: Global, to: &ForTarget, vars: &mut Seq<Text>) -> Result<(), NoMemory>
+fn in_target(alloc: Global, to: &ForTarget, vars: &mut Names) -> Result<(), NoMemory>
     ensures { OnOk result (vars.new ≡ spec.add_all vars.old (names.target_vars to.now)) }
 {
     match to {
         ForTarget::Expr(_) => Ok(()),
-        ForTarget::Var(_, name) => add(alloc, vars, name),
+        ForTarget::Var(_, name) => vars.add(alloc, name),
     }
 }
 
 /// Adds the names that `var` declares in these statements, each once.
 #[cycle(hoisting)]
 #[tactic(auto, using(crate::proofs::Leaving::lists))]
-pub fn in_stmts(all: &[Stmt], alloc: Global, vars: &mut Seq<Text>) -> Result<(), NoMemory>
+pub fn in_stmts(all: &[Stmt], alloc: Global, vars: &mut Names) -> Result<(), NoMemory>
     ensures { OnOk result (vars.new ≡ spec.add_all vars.old (spec.in_stmts all.now)) }
 {
     for s in all {
@@ -52,7 +52,7 @@ pub fn in_stmts(all: &[Stmt], alloc: Global, vars: &mut Seq<Text>) -> Result<(),
 
 #[cycle(hoisting)]
 #[tactic(auto, using(crate::proofs::Leaving::lists))]
-fn in_cases(all: &[Case], alloc: Global, vars: &mut Seq<Text>) -> Result<(), NoMemory>
+fn in_cases(all: &[Case], alloc: Global, vars: &mut Names) -> Result<(), NoMemory>
     ensures { OnOk result (vars.new ≡ spec.add_all vars.old (spec.in_cases all.now)) }
 {
     for c in all {
@@ -62,35 +62,35 @@ fn in_cases(all: &[Case], alloc: Global, vars: &mut Seq<Text>) -> Result<(), NoM
 }
 
 #[cycle(hoisting)]
-fn in_case(c: &Case, alloc: Global, vars: &mut Seq<Text>) -> Result<(), NoMemory>
+fn in_case(c: &Case, alloc: Global, vars: &mut Names) -> Result<(), NoMemory>
     ensures { OnOk result (vars.new ≡ spec.add_all vars.old (spec.in_case c.now)) }
 {
     in_stmts(c.body.as_slice(), alloc, vars)
 }
 
 #[cycle(hoisting)]
-fn in_catch(c: &Catch, alloc: Global, vars: &mut Seq<Text>) -> Result<(), NoMemory>
+fn in_catch(c: &Catch, alloc: Global, vars: &mut Names) -> Result<(), NoMemory>
     ensures { OnOk result (vars.new ≡ spec.add_all vars.old (spec.in_catch c.now)) }
 {
     in_stmts(c.body.as_slice(), alloc, vars)
 }
 
 #[cycle(hoisting)]
-fn in_finally(f: &Finally, alloc: Global, vars: &mut Seq<Text>) -> Result<(), NoMemory>
+fn in_finally(f: &Finally, alloc: Global, vars: &mut Names) -> Result<(), NoMemory>
     ensures { OnOk result (vars.new ≡ spec.add_all vars.old (spec.in_finally f.now)) }
 {
     in_stmts(f.body.as_slice(), alloc, vars)
 }
 
 #[cycle(hoisting)]
-fn in_stmt(s: &Stmt, alloc: Global, vars: &mut Seq<Text>) -> Result<(), NoMemory>
+fn in_stmt(s: &Stmt, alloc: Global, vars: &mut Names) -> Result<(), NoMemory>
     ensures { OnOk result (vars.new ≡ spec.add_all vars.old (names.vars_in s.now)) }
 {
     in_form(&s.form, alloc, vars)
 }
 
 #[cycle(hoisting)]
-fn in_form(form: &StmtForm, alloc: Global, vars: &mut Seq<Text>) -> Result<(), NoMemory>
+fn in_form(form: &StmtForm, alloc: Global, vars: &mut Names) -> Result<(), NoMemory>
     ensures { OnOk result (vars.new ≡ spec.add_all vars.old (spec.in_form form.now)) }
 {
     match form {
@@ -174,9 +174,9 @@ pub fn functions_in(alloc: Global, body: &[Stmt]) -> Result<Seq<FuncNo>, NoMemor
 pub fn vars_of(alloc: Global, body: &[Stmt]) -> Result<Seq<Text>, NoMemory>
     ensures { IfOk result (λ vars. vars ≡ names.hoisted_vars body.now) }
 {
-    let mut vars = Seq::new(alloc);
+    let mut vars = Names::new(alloc);
     in_stmts(body, alloc, &mut vars)?;
-    Ok(vars)
+    vars.texts(alloc)
 }
 
 fn of_body(alloc: Global, body: &[Stmt]) -> Result<HoistedNames, NoMemory>

@@ -5,8 +5,9 @@ ghost use Rattle.js_tree.specs.Mentions as tree;
 ghost use Rattle.js_tree.specs.Simple as simple;
 ghost use Rattle.js_scope.specs.Mentioning as spec;
 
-use crate::names::is_among;
+use crate::names::Names;
 use js_value::{Kind, NoMemory, Place, Text};
+use std::alloc::Global;
 
 /// What code mentions at a place.
 #[derive(Clone, Copy, Debug)]
@@ -39,12 +40,12 @@ pub fn push<'a>(mentions: &mut Vec<Mention<'a>>, mention: Mention<'a>) -> Result
 }
 
 /// A mention that isn't one of these names.
-fn unbound_one<'a>(names: &[Text], mention: Mention<'a>) -> Option<Mention<'a>>
+fn unbound_one<'a>(names: &Names, mention: Mention<'a>) -> Option<Mention<'a>>
     ensures { spec.told_maybe result ≡ tree.unbound_one names.now (spec.mention_of mention.entry) }
 {
     match mention {
         Mention::Reads(_, name) | Mention::Assigns(_, name) => {
-            if is_among(names, name) {
+            if names.has(name) {
                 None
             } else {
                 Some(mention)
@@ -55,8 +56,8 @@ fn unbound_one<'a>(names: &[Text], mention: Mention<'a>) -> Option<Mention<'a>>
 }
 
 /// Puts behind the others what code mentions that has these names bound around it.
-pub fn push_unbound<'a>(
-    names: &[Text],
+fn push_unbound_of<'a>(
+    names: &Names,
     inside: &[Mention<'a>],
     mentions: &mut Vec<Mention<'a>>,
 ) -> Result<(), NoMemory>
@@ -68,6 +69,19 @@ pub fn push_unbound<'a>(
         }
     }
     Ok(())
+}
+
+/// Puts behind the others what code mentions that has these names bound around it.
+#[tactic(auto, using(crate::proofs::Gathered::unbound_alike))]
+pub fn push_unbound<'a>(
+    alloc: Global,
+    names: &[Text],
+    inside: &[Mention<'a>],
+    mentions: &mut Vec<Mention<'a>>,
+) -> Result<(), NoMemory>
+    ensures { OnOk result (spec.told mentions.new.items ≡ spec.told mentions.old.items ++ tree.unbound names.now (spec.told inside.now)) }
+{
+    push_unbound_of(&Names::of(alloc, names)?, inside, mentions)
 }
 
 /// Whether a function's own name is this one.

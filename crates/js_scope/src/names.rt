@@ -1,25 +1,74 @@
-//! Lists of names.
+//! Names, each once.
 
-ghost use Rattle.std.specs.Prelude.{◌≡◌, OnOk};
+ghost use Rattle.std.specs.Prelude.{◌≡◌, [], ℕ, List, IfOk, OnOk};
 ghost use Rattle.js_tree.specs.Simple as simple;
 ghost use Rattle.js_scope.specs.Hoisting as spec;
 
+use indexmap::IndexSet;
 use js_value::{NoMemory, Seq, Text};
 use std::alloc::Global;
+use std::marker::Model;
 
-/// Whether a name is among these.
-pub fn is_among(names: &[Text], name: &Text) -> bool
-    ensures { result ≡ simple.is_among names.now name.now }
-{
-    names.iter().any(|known| *name == *known)
+/// Names, each once, in the order in which they came first. To look one up doesn't take longer where there are more.
+#[derive(Drop)]
+pub struct Names {
+    set: IndexSet<Text>,
 }
 
-/// Puts a name behind the others, unless it is among them.
-pub fn add(alloc: Global, names: &mut Seq<Text>, name: &Text) -> Result<(), NoMemory>
-    ensures { OnOk result (names.new ≡ spec.add names.old name.now) }
-{
-    if is_among(names.as_slice(), name) {
-        return Ok(());
+impl Model for Names {
+    ghost use Rattle.std.specs.Prelude.{ℕ, List};
+
+    ghost Value = { List (List ℕ) };
+
+    ghost view = { λ n. n.set.keys };
+}
+
+impl Names {
+    pub fn new(alloc: Global) -> Names
+        ensures { result ≡ [] }
+    {
+        Names {
+            set: IndexSet::new(alloc),
+        }
     }
-    names.push(name.copy(alloc)?)
+
+    /// Whether a name is among these.
+    pub fn has(&self, name: &Text) -> bool
+        ensures { result ≡ simple.is_among self.now name.now }
+    {
+        self.set.contains(name)
+    }
+
+    /// Puts a name behind the others, unless it is among them.
+    pub fn add(&mut self, alloc: Global, name: &Text) -> Result<(), NoMemory>
+        ensures { OnOk result (self.new ≡ spec.add self.old name.now) }
+    {
+        if !self.has(name) {
+            self.set.insert(name.copy(alloc)?)?;
+        }
+        Ok(())
+    }
+
+    /// These names as a set.
+    #[tactic(auto, using(crate::proofs::Gathered::among_all))]
+    pub fn of(alloc: Global, all: &[Text]) -> Result<Names, NoMemory>
+        ensures { IfOk result (λ names. (q : List ℕ) → simple.is_among names q ≡ simple.is_among all.now q) }
+    {
+        let mut names = Names::new(alloc);
+        for name in all {
+            names.add(alloc, name)?;
+        }
+        Ok(names)
+    }
+
+    /// These names as a list.
+    pub fn texts(&self, alloc: Global) -> Result<Seq<Text>, NoMemory>
+        ensures { IfOk result (λ texts. texts ≡ self.now) }
+    {
+        let mut texts = Seq::new(alloc);
+        for name in self.set.as_slice() {
+            texts.push(name.copy(alloc)?)?;
+        }
+        Ok(texts)
+    }
 }

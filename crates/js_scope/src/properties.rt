@@ -6,8 +6,10 @@ ghost use Rattle.js_scope.specs.Mentioning as spec;
 ghost use Rattle.js_scope.specs.Properties as properties;
 
 use crate::mention::{Mention, push};
+use crate::names::Names;
 use js_tree::Field;
 use js_value::{NoMemory, Place, Text};
+use std::alloc::Global;
 
 /// How a property is given.
 #[derive(Clone, Copy, Debug, PartialEq, Eq)]
@@ -43,51 +45,71 @@ fn how_given(field: &Field) -> Given
     }
 }
 
-/// Two values of one name don't clash outside strict code, nor do a getter and a setter; all others do.
-fn clash(a: Given, b: Given) -> bool
-    ensures { result ≡ tree.clash (properties.given_of a) (properties.given_of b) }
-{
-    match a {
-        Given::Value => !matches!(&b, Given::Value),
-        Given::Getter => !matches!(&b, Given::Setter),
-        Given::Setter => !matches!(&b, Given::Getter),
+/// The names of properties, by how they are given.
+#[derive(Drop)]
+struct Seen {
+    values: Names,
+    getters: Names,
+    setters: Names,
+}
+
+impl Seen {
+    /// Whether a property clashes with one of these: two values of one name don't clash outside strict code, nor do a
+    /// getter and a setter; all others do.
+    fn clashes(&self, field: &Field) -> bool
+        ensures { result ≡ properties.clashes_with self.now (properties.property field.now) }
+    {
+        let key = key(field);
+        match how_given(field) {
+            Given::Value => self.getters.has(key) || self.setters.has(key),
+            Given::Getter => self.values.has(key) || self.getters.has(key),
+            Given::Setter => self.values.has(key) || self.setters.has(key),
+        }
     }
-}
 
-/// Whether an earlier property clashes with this one.
-fn clashes_one(field: &Field, other: &Field) -> bool
-    ensures { result ≡ properties.clashes_one (properties.property field.now) (properties.property other.now) }
-{
-    *key(other) == *key(field) && clash(how_given(other), how_given(field))
-}
-
-/// Whether a property clashes with one of these.
-fn clashes(before: &[Field], field: &Field) -> bool
-    ensures { result ≡ properties.clashing before.now field.now }
-{
-    before.iter().any(|other| clashes_one(field, other))
+    /// Puts a property to these.
+    fn add(&mut self, alloc: Global, field: &Field) -> Result<(), NoMemory>
+        ensures { OnOk result (self.new ≡ properties.with_one self.old (properties.property field.now)) }
+    {
+        let key = key(field);
+        match how_given(field) {
+            Given::Value => self.values.add(alloc, key),
+            Given::Getter => self.getters.add(alloc, key),
+            Given::Setter => self.setters.add(alloc, key),
+        }
+    }
 }
 
 /// Puts a mention of a property behind the others, where it clashes with one of these.
 fn push_repeat<'a>(
-    before: &[Field],
+    seen: &Seen,
     field: &Field,
     mentions: &mut Vec<Mention<'a>>,
 ) -> Result<(), NoMemory>
-    ensures { OnOk result (spec.told mentions.new.items ≡ spec.told mentions.old.items ++ properties.repeat_of before.now field.now) }
+    ensures { OnOk result (spec.told mentions.new.items ≡ spec.told mentions.old.items ++ properties.repeat_with seen.now (properties.property field.now)) }
 {
-    if clashes(before, field) {
+    if seen.clashes(field) {
         return push(mentions, Mention::Repeats(place(field)));
     }
     Ok(())
 }
 
 /// Puts behind the others the properties that clash with an earlier one.
-pub fn push_repeats<'a>(fields: &[Field], mentions: &mut Vec<Mention<'a>>) -> Result<(), NoMemory>
+pub fn push_repeats<'a>(
+    alloc: Global,
+    fields: &[Field],
+    mentions: &mut Vec<Mention<'a>>,
+) -> Result<(), NoMemory>
     ensures { OnOk result (spec.told mentions.new.items ≡ spec.told mentions.old.items ++ tree.repeated [] (map properties.property fields.now)) }
 {
-    for i in 0..fields.len() {
-        push_repeat(&fields[..i], &fields[i], mentions)?;
+    let mut seen = Seen {
+        values: Names::new(alloc),
+        getters: Names::new(alloc),
+        setters: Names::new(alloc),
+    };
+    for field in fields {
+        push_repeat(&seen, field, mentions)?;
+        seen.add(alloc, field)?;
     }
     Ok(())
 }

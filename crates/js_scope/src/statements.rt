@@ -91,7 +91,7 @@ impl<'a> Walk<'a, '_> {
     {
         let mut inside = Vec::new(self.alloc);
         self.in_stmts(c.body.as_slice(), &mut inside)?;
-        push_unbound(from_ref(&c.name), inside.as_slice(), mentions)
+        push_unbound(self.alloc, from_ref(&c.name), inside.as_slice(), mentions)
     }
 
     #[cycle(stmt_mentions)]

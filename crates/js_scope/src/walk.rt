@@ -149,7 +149,7 @@ impl<'a> Walk<'a, '_> {
             ExprForm::ArrayLit(items) => self.in_elements(items.as_slice(), mentions),
             ExprForm::ObjectLit(fields) => {
                 self.in_fields(fields.as_slice(), mentions)?;
-                push_repeats(fields.as_slice(), mentions)
+                push_repeats(self.alloc, fields.as_slice(), mentions)
             }
             ExprForm::Func(f) => self.in_function(*f, mentions),
             ExprForm::Member(object, _) => self.in_expr(object, mentions),
