@@ -3,3 +3,6 @@ pub mod ResidualTokens
 pub mod ResidualReading
 pub mod ResidualEarly
 pub mod ResidualBack
+pub mod Claims
+pub mod SumNodes
+pub mod FewInExpressions
