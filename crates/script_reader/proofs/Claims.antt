@@ -142,7 +142,7 @@ pub opens : {A : Type 0} {w : ℕ} {Q : A → ℕ → Type 0} {m : Reading A} �
 unfolding part
 opens {w = w} {Q = Q} h = bind (λ _ v. v ≡ w) enters (λ opened v e. bind Q (moved e h) (λ x u q. look (leaves opened) (λ _. gives x q)))
 
-allowed : {A : Type 0} {w : ℕ} (s : Rest) (a : A) (e : ReadRefused) (b : Bool) (Q : A → ℕ → Type 0) → weight s.tokens ≡ w → Q a w → After (cond b (Ok (a, s)) (Err e)) Q
+pub allowed : {A : Type 0} {w : ℕ} (s : Rest) (a : A) (e : ReadRefused) (b : Bool) (Q : A → ℕ → Type 0) → weight s.tokens ≡ w → Q a w → After (cond b (Ok (a, s)) (Err e)) Q
 allowed s a e true Q is h = subst (λ v. Q a v) (sym is) h
 allowed s a e false Q is h = tt
 

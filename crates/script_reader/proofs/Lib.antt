@@ -6,3 +6,4 @@ pub mod ResidualBack
 pub mod Claims
 pub mod SumNodes
 pub mod FewInExpressions
+pub mod FewInStatements
