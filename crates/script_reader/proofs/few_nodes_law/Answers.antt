@@ -1,5 +1,5 @@
-use Rattle.script_reader.proofs.FewInStatements.{element_few}
+use Rattle.script_reader.proofs.FewInTexts.{few_nodes}
 use Rattle.script_reader.proofs.few_nodes_law.Goals as goal
 
 pub returns : goal.returns
-returns c = ?
+returns c = few_nodes
