@@ -1,12 +1,19 @@
-//! From the bytes of a text to its script.
+//! From the bytes of a text to its script, and which scripts are simple.
 #![tactic(auto)]
+
+mod names;
+mod script;
+mod sums;
+mod words;
+
+pub use script::{is_simple, read};
 
 ghost use Rattle.std.specs.Prelude.{◌≡◌, ◌*◌, ◌≤◌, ℕ, List, Ok, IsTrue, length};
 ghost use Rattle.js_value.specs.declared.primitive.Primitive.{Primitive};
 ghost use Rattle.js_tree.specs.declared.statement.Script.{Script};
 ghost use Rattle.js_tree.specs.Count.{nodes};
 ghost use Rattle.js_tree.specs.Residual.{snapshot};
-ghost use Rattle.js_tree.specs.SimpleScripts.{is_simple};
+ghost use Rattle.js_tree.specs.SimpleScripts as simple;
 ghost use Rattle.js_tree.specs.Text.{script_text};
 ghost use Rattle.js_machine.specs.Readable.{is_readable, placed};
 ghost use Rattle.script_reader.specs.Reads.{reads};
@@ -19,6 +26,6 @@ pub fn residual_law()
 
 /// The script of a text has few nodes where it is simple: at most 20 for 21 bytes. A law, with nothing to run.
 pub fn few_nodes_law()
-    ensures { (text : List ℕ) (limit : ℕ) (s : Script) → reads text limit ≡ Ok s → IsTrue (is_simple s) →
+    ensures { (text : List ℕ) (limit : ℕ) (s : Script) → reads text limit ≡ Ok s → IsTrue (simple.is_simple s) →
         21 * nodes s ≤ 20 * length text }
 {}

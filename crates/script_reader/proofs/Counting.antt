@@ -1,0 +1,21 @@
+-- Sums whose terms are counted.
+use Rattle.std.proofs.Common.{◌≡◌, ℕ, ◌+◌, min, refl, ap, sym, ◌∙◌, arith}
+use Rattle.js_tree.specs.SimpleScripts as spec
+use Rattle.script_reader.specs.declared.sums.Sum.TheVariants as sum
+use Rattle.script_reader.specs.Sums.{counted, joined, negative, is_short}
+
+pub counted-joined : (x y : spec.Sum) → counted (spec.joined x y) ≡ joined (counted x) (counted y)
+counted-joined spec.LiteralAlone spec.LiteralAlone = refl
+counted-joined spec.LiteralAlone (spec.Terms n) = ap sum.Terms (omega arith)
+counted-joined (spec.Terms m) spec.LiteralAlone = ap sum.Terms (omega arith)
+counted-joined (spec.Terms m) (spec.Terms n) = ap sum.Terms (omega arith)
+counted-joined spec.NoSum y = refl
+counted-joined spec.LiteralAlone spec.NoSum = refl
+counted-joined (spec.Terms m) spec.NoSum = refl
+
+pub counted-negative : (x : spec.Sum) → counted (spec.negative x) ≡ negative (counted x)
+counted-negative spec.NoSum = refl
+counted-negative spec.LiteralAlone = refl
+counted-negative (spec.Terms n) = refl
+
+pub ruleset counting = (counted-joined, counted-negative)
