@@ -23,6 +23,8 @@ use Rattle.js_tree.specs.declared.statement.Script.{Script}
 use Rattle.prepack_core.specs.declared.evaluate.Departure.{Departure}
 use Rattle.prepack_core.specs.declared.evaluate.Stop.{Stop}
 use Rattle.prepack_core.specs.declared.evaluate.Stop.TheVariants as stop
+use Rattle.js_tree.specs.declared.refusal.ReadRefused.{ReadRefused}
+use Rattle.js_tree.specs.declared.refusal.ReadRefused.TheVariants as refused
 use Rattle.prepack_core.specs.declared.report.Report.{Report}
 use Rattle.prepack_core.specs.declared.report.Report.TheVariants as report
 use Rattle.prepack_core.specs.Values.{primitive_of}
@@ -102,3 +104,10 @@ Evaluates s (Err stop.NoMemory) = Unit {0}
 abbrev pub IsReportOf : Stop → Report → Type 0
 IsReportOf (stop.Left d) r = r ≡ report.Stuck d.at d.why
 IsReportOf stop.NoMemory r = r ≡ report.NoMemory
+
+-- the report of a text that isn't read
+abbrev pub report_of_refusal : ReadRefused → Report
+report_of_refusal (refused.Syntax at) = report.Syntax at
+report_of_refusal (refused.Unsupported at feature) = report.Unsupported at feature
+report_of_refusal (refused.Nested at) = report.Nested at
+report_of_refusal refused.NoMemory = report.NoMemory

@@ -27,7 +27,9 @@ number_of status.Nested = 12
 
 abbrev pub status_of : Report → Status
 status_of report.Usage = status.Usage
+status_of (report.Syntax at) = status.Syntax
 status_of (report.Unsupported at feature) = status.Unsupported
+status_of (report.Nested at) = status.Nested
 status_of (report.Stuck at why) = status.Stuck
 status_of report.TooLarge = status.TooLarge
 status_of report.ReadFault = status.ReadFault
@@ -82,8 +84,14 @@ why_name why.Depth = codes "depth"
 abbrev pub place_line : List ℕ → Place → List ℕ → List ℕ → List ℕ → List ℕ
 place_line front at middle name end = (front ++ decimal at.0) ++ ((middle ++ name) ++ end)
 
+-- a line that names a place alone
+abbrev pub bare_line : List ℕ → Place → List ℕ
+bare_line front at = (front ++ decimal at.0) ++ codes "\n"
+
 abbrev pub line_of : Report → List ℕ
 line_of report.Usage = codes "usage: prepack [--steps N] eval | run ITEM.. | drill N\n"
+line_of (report.Syntax at) = bare_line (codes "syntax at ") at
+line_of (report.Nested at) = bare_line (codes "nested at ") at
 line_of (report.Unsupported at feature) = place_line (codes "unsupported at ") at (codes ": ") (feature_name feature) (codes "\n")
 line_of (report.Stuck at why) = place_line (codes "stuck at ") at (codes ": leaves ") (why_name why) (codes " []\n")
 line_of report.TooLarge = codes "source over 1048576 bytes\n"

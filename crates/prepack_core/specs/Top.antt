@@ -46,6 +46,8 @@ abbrev pub HasReason : ℕ → Option (List ℕ) → Option (List ℕ) → ℕ �
 HasReason n left left_now faults faults_now report.TooLarge = IsSome left → length (bytes_given left left_now) ≡ 1048577
 HasReason n left left_now faults faults_now report.ReadFault = (length (bytes_given left left_now) ≤ 1048576) × Rose faults faults_now
 HasReason n left left_now faults faults_now report.NoMemory = Unit {0}
+HasReason n left left_now faults faults_now (report.Syntax at) = IsRead left left_now (λ source. IsReason n source (report.Syntax at))
+HasReason n left left_now faults faults_now (report.Nested at) = IsRead left left_now (λ source. IsReason n source (report.Nested at))
 HasReason n left left_now faults faults_now (report.Unsupported at feature) = IsRead left left_now (λ source. IsReason n source (report.Unsupported at feature))
 HasReason n left left_now faults faults_now (report.Stuck at why) = IsRead left left_now (λ source. IsReason n source (report.Stuck at why))
 HasReason n left left_now faults faults_now report.Usage = ⊥

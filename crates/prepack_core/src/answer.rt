@@ -8,10 +8,13 @@ use crate::evaluate::{Stop, evaluate};
 use crate::report::Report;
 use crate::residual::residual_text;
 use js_machine::snapshot_law;
-use js_tree::Feature;
+use js_tree::{Feature, ReadRefused};
 use js_value::{NoMemory, Place};
-use simple_reader::read_simple;
+use script_reader::{few_nodes_law, is_simple, read, residual_law};
 use std::alloc::Global;
+
+/// At most this many parts of a source are open at once, and no tree of it is higher.
+const NESTING_LIMIT: u32 = 200;
 
 impl From<NoMemory> for Report {
     ghost use Rattle.std.specs.Prelude.{◌≡◌};
@@ -21,6 +24,22 @@ impl From<NoMemory> for Report {
 
     fn from(_: NoMemory) -> Report {
         Report::NoMemory
+    }
+}
+
+impl From<ReadRefused> for Report {
+    ghost use Rattle.std.specs.Prelude.{◌≡◌};
+    ghost use Rattle.prepack_core.specs.Evaluates.{report_of_refusal};
+
+    ghost from_gives = { λ e r. r ≡ report_of_refusal e };
+
+    fn from(refused: ReadRefused) -> Report {
+        match refused {
+            ReadRefused::Syntax(at) => Report::Syntax(at),
+            ReadRefused::Unsupported(at, feature) => Report::Unsupported(at, feature),
+            ReadRefused::Nested(at) => Report::Nested(at),
+            ReadRefused::NoMemory => Report::NoMemory,
+        }
     }
 }
 
@@ -41,14 +60,18 @@ pub fn answer(alloc: Global, steps: u64, source: &[u8]) -> Result<Vec<u8>, Repor
     ensures ok { IfOk result (λ text. IsResidualOf steps source.now text.items) }
     ensures err { IfErr result (λ r. IsReason steps source.now r) }
 {
-    let Some(script) = read_simple(alloc, source)? else {
+    let script = read(alloc, source, NESTING_LIMIT)?;
+    if !is_simple(alloc, &script)? {
         return Err(Report::Unsupported(Place(0), Feature::NotBuilt));
-    };
+    }
+    // Laws of the definitions, with nothing to run: the budget is enough for a simple script of a text of this size, and the
+    // text below reads back and rebuilds the variables.
+    few_nodes_law();
     match evaluate(alloc, &script) {
         Err(stop) => Err(report_of(stop)),
         Ok(variables) => {
-            // A law of the definitions, with nothing to run: the text below reads back and rebuilds the variables.
             snapshot_law();
+            residual_law();
             Ok(residual_text(alloc, &variables)?)
         }
     }

@@ -40,7 +40,11 @@ impl Status {
 #[derive(Clone, Copy, Debug, PartialEq, Eq)]
 pub enum Report {
     Usage,
+    /// The text is no script of the language.
+    Syntax(Place),
     Unsupported(Place, Feature),
+    /// More parts are open than may be, or a tree is too high.
+    Nested(Place),
     /// The script's run leaves the profile at a place, whatever is chosen.
     Stuck(Place, Why),
     TooLarge,
@@ -56,7 +60,9 @@ impl Report {
     {
         match self {
             Report::Usage => Status::Usage,
+            Report::Syntax(_) => Status::Syntax,
             Report::Unsupported(_, _) => Status::Unsupported,
+            Report::Nested(_) => Status::Nested,
             Report::Stuck(_, _) => Status::Stuck,
             Report::TooLarge => Status::TooLarge,
             Report::ReadFault => Status::ReadFault,
@@ -167,6 +173,14 @@ fn tell_place<K: Sink>(
     write_text(sink, end);
 }
 
+/// Writes `front`, a place and the end of the line, as far as the sink takes them.
+fn tell_bare_place<K: Sink>(sink: &mut K, front: &[u8], at: Place)
+    ensures { IsAppended (K.held sink.old) (K.held sink.new) (K.faults sink.old) (K.faults sink.new)
+        (spec.bare_line front.now at) }
+{
+    tell_place(sink, front, at, b"", b"", b"\n");
+}
+
 /// Writes the line of a report, as far as the sink takes it. It takes no memory.
 pub fn tell<K: Sink>(sink: &mut K, report: &Report)
     ensures { IsAppended (K.held sink.old) (K.held sink.new) (K.faults sink.old) (K.faults sink.new)
@@ -179,6 +193,8 @@ pub fn tell<K: Sink>(sink: &mut K, report: &Report)
                 b"usage: prepack [--steps N] eval | run ITEM.. | drill N\n",
             );
         }
+        Report::Syntax(at) => tell_bare_place(sink, b"syntax at ", *at),
+        Report::Nested(at) => tell_bare_place(sink, b"nested at ", *at),
         Report::Unsupported(at, feature) => {
             let name = feature_name(*feature);
             tell_place(sink, b"unsupported at ", *at, b": ", name, b"\n");

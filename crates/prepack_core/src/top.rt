@@ -1,7 +1,7 @@
 ghost use Rattle.std.specs.Prelude.{◌≡◌, ◌≢◌, ◌↔◌, ◌⊎◌, ◌+◌, ◌<◌, ◌≤◌, [], None, IsTrue, IsSome, IfOk, IfErr, map, length, string_bytes};
 ghost use Rattle.prepack_core.specs.Io.{Rose, before_left, IsEmptied};
 ghost use Rattle.prepack_core.specs.Words.{command};
-ghost use Rattle.prepack_core.specs.Promises.{IsResidualOf, IsUnsupported};
+ghost use Rattle.prepack_core.specs.Promises.{IsResidualOf, IsNoScript, IsUnsupported, IsNested};
 ghost use Rattle.js_value.specs.declared.place.Place.{Place};
 ghost use Rattle.js_value.specs.declared.why.Why.{Why};
 ghost use Rattle.js_tree.specs.declared.refusal.Feature.{Feature};
@@ -100,6 +100,12 @@ pub fn prepack<S: Source, T: Sink, D: Sink>(
         (S.faults source.old) (S.faults source.new) result }
     ensures stuck { (at : Place) (why : Why) → Expects
         (IsStopped (command (map string_bytes words.now)) at why) Status.Stuck (S.left source.old)
+        (S.faults source.old) (S.faults source.new) result }
+    ensures syntax { (at : Place) → command (map string_bytes words.now) ≢ None →
+        Expects (λ bytes. IsNoScript bytes at) Status.Syntax (S.left source.old)
+        (S.faults source.old) (S.faults source.new) result }
+    ensures nested { (at : Place) → command (map string_bytes words.now) ≢ None →
+        Expects (λ bytes. IsNested bytes at) Status.Nested (S.left source.old)
         (S.faults source.old) (S.faults source.new) result }
     ensures unsupported { (at : Place) (feature : Feature) →
         command (map string_bytes words.now) ≢ None →

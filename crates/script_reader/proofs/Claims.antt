@@ -1,6 +1,6 @@
 -- What holds of the trees that productions give, and of the tokens that they leave.
-use Rattle.std.proofs.Common.{◌≡◌, ℕ, zero, suc, ◌+◌, ◌-◌, ◌≤◌, Bool, true, false, cond, List, [], ◌∷◌, ◌++◌, length, drop, refl, ap, sym, ◌∙◌, subst, arith}
-use Rattle.std.specs.Prelude.{nat_lt, slice_get, is_some, Option, Some, None, Result, Ok, Err}
+use Rattle.std.proofs.Common.{◌≡◌, ℕ, zero, suc, ◌+◌, ◌-◌, ◌≤◌, Bool, true, false, cond, List, [], ◌∷◌, length, drop, refl, ap, sym, ◌∙◌, subst, arith}
+use Rattle.std.specs.Prelude.{nat_lt, is_some, Option, Some, None, Result, Ok, Err}
 use Rattle.js_value.specs.declared.place.Place.{Place}
 use Rattle.js_tree.specs.declared.expression.Expr.{Expr}
 use Rattle.js_tree.specs.declared.expression.ExprForm.{ExprForm}
@@ -13,7 +13,7 @@ use Rattle.js_tree.specs.declared.token.Keyword.TheVariants as keyword
 use Rattle.js_tree.specs.declared.token.TokenForm.{TokenForm}
 use Rattle.js_tree.specs.declared.token.TokenForm.TheVariants as form
 use Rattle.js_tree.specs.declared.token.Token.{Token}
-use Rattle.js_grammar.specs.Rest.{Rest, Reading, give, behind, ◌>>=◌, ◌>>◌, refuse, unless, unexpected, is_empty, place_of, of_first, passed, go_on, next, expect, repeat, again, here, sees, enter, leave, part, finish, finish_stmt}
+use Rattle.js_grammar.specs.Rest.{Rest, Reading, give, behind, ◌>>=◌, ◌>>◌, refuse, unless, unexpected, is_empty, place_of, of_first, passed, go_on, next, repeat, again, here, sees, enter, leave, part, finish, finish_stmt}
 
 -- `var` takes three bytes and every other token at least one
 abbrev pub token_weight : TokenForm → ℕ

@@ -1,8 +1,8 @@
 -- Sums whose terms are counted.
-use Rattle.std.proofs.Common.{◌≡◌, ℕ, ◌+◌, min, refl, ap, sym, ◌∙◌, arith}
+use Rattle.std.proofs.Common.{◌≡◌, refl, ap, arith}
 use Rattle.js_tree.specs.SimpleScripts as spec
 use Rattle.script_reader.specs.declared.sums.Sum.TheVariants as sum
-use Rattle.script_reader.specs.Sums.{counted, joined, negative, is_short}
+use Rattle.script_reader.specs.Sums.{counted, joined, negative}
 
 pub counted-joined : (x y : spec.Sum) → counted (spec.joined x y) ≡ joined (counted x) (counted y)
 counted-joined spec.LiteralAlone spec.LiteralAlone = refl

@@ -1,6 +1,6 @@
 -- Expressions that are sums have no more nodes than tokens.
-use Rattle.std.proofs.Common.{◌≡◌, ℕ, ◌+◌, ◌≤◌, Bool, true, false, cond, List, [], ◌∷◌, refl, ap, sym, ◌∙◌, subst, arith}
-use Rattle.std.specs.Prelude.{Option, Some, None, ◌&&◌}
+use Rattle.std.proofs.Common.{◌≡◌, ℕ, ◌+◌, ◌≤◌, Bool, true, List, [], refl, subst, arith}
+use Rattle.std.specs.Prelude.{Option, ◌&&◌}
 use Rattle.js_value.specs.declared.place.Place.{Place}
 use Rattle.js_value.specs.declared.operator.BinaryOp.{BinaryOp}
 use Rattle.js_tree.specs.declared.expression.Expr.{Expr}
@@ -21,7 +21,7 @@ use Rattle.js_grammar.specs.Functions.{Grammar, function_expression}
 use Rattle.js_grammar.specs.Operators
 use Rattle.js_grammar.specs.Primary as P
 use Rattle.js_grammar.specs.Expressions as E
-use Rattle.script_reader.proofs.Claims.{Still, Ends, bind, any, past, weaker, gives, refuses, misses, still, here_still, sees_still, look, moved, chooses, bars, takes, takes_form, opens, finishes, repeats, some_weight}
+use Rattle.script_reader.proofs.Claims.{Still, Ends, bind, any, past, weaker, gives, refuses, misses, still, here_still, sees_still, look, chooses, bars, takes, takes_form, opens, finishes, repeats, some_weight}
 use Rattle.script_reader.proofs.SumNodes.{node, layer_sum, Costs, Grows, stops, none, none_costs, none_grows, binary_grows, unary_costs, literal_costs, name_costs, lighter, grown}
 
 pub later_still : Still on_later_line

@@ -1,7 +1,7 @@
 -- A simple script has few nodes for its tokens.
-use Rattle.std.proofs.Common.{◌≡◌, ℕ, zero, suc, ◌+◌, ◌-◌, ◌*◌, ◌≤◌, Bool, true, false, cond, List, [], ◌∷◌, ◌++◌, length, map, refl, ap, sym, ◌∙◌, subst, arith}
-use Rattle.std.specs.Prelude.{Option, Some, None, Result, Ok, Err, sum, not, ◌&&◌, ◌||◌, is_some}
-use Rattle.std.specs.List.{list_all, sum_by}
+use Rattle.std.proofs.Common.{◌≡◌, ℕ, ◌+◌, ◌*◌, ◌≤◌, Bool, true, false, cond, List, [], ◌∷◌, ◌++◌, refl, ap, sym, ◌∙◌, arith}
+use Rattle.std.specs.Prelude.{Option, Some, None, ◌||◌, is_some}
+use Rattle.std.specs.List.{list_all}
 use Rattle.std.specs.Option.{option_or}
 use Rattle.std.proofs.lemmas.Bool.{and_parts, both_ways}
 use Rattle.std.proofs.lemmas.List.Folds.{list_all-append}
@@ -9,7 +9,6 @@ use Rattle.std.proofs.lemmas.List.Sums.{sum_by_push, sum-map}
 use Rattle.js_value.specs.declared.place.Place.{Place}
 use Rattle.js_tree.specs.declared.expression.Expr.{Expr}
 use Rattle.js_tree.specs.declared.refusal.Feature.TheVariants as feature
-use Rattle.js_tree.specs.declared.refusal.ReadRefused.{ReadRefused}
 use Rattle.js_tree.specs.declared.refusal.ReadRefused.TheVariants.{Syntax, Unsupported}
 use Rattle.js_tree.specs.declared.statement.Case.{Case}
 use Rattle.js_tree.specs.declared.statement.Catch.{Catch}
@@ -19,9 +18,7 @@ use Rattle.js_tree.specs.declared.statement.ForStart.{ForStart}
 use Rattle.js_tree.specs.declared.statement.ForStart.TheVariants as start
 use Rattle.js_tree.specs.declared.statement.ForTarget.{ForTarget}
 use Rattle.js_tree.specs.declared.statement.ForTarget.TheVariants as target
-use Rattle.js_tree.specs.declared.statement.Func.{Func}
 use Rattle.js_tree.specs.declared.statement.Name.{Name}
-use Rattle.js_tree.specs.declared.statement.Script.{Script}
 use Rattle.js_tree.specs.declared.statement.Stmt.{Stmt}
 use Rattle.js_tree.specs.declared.statement.StmtForm.{StmtForm, out-StmtForm}
 use Rattle.js_tree.specs.declared.statement.StmtForm.TheOpen.{StmtForm-F}
@@ -31,10 +28,8 @@ use Rattle.js_tree.specs.declared.token.Punctuator.TheVariants as mark
 use Rattle.js_tree.specs.declared.token.TokenForm.{TokenForm}
 use Rattle.js_tree.specs.declared.token.TokenForm.TheVariants as form
 use Rattle.js_tree.specs.declared.token.Token.{Token}
-use Rattle.js_tree.specs.declared.token.Tokens.{Tokens}
-use Rattle.js_tree.specs.Count.{in_expr, in_maybe, in_declarators, in_stmt, in_stmts, in_func, nodes}
-use Rattle.js_tree.specs.Simple.{reads_declared}
-use Rattle.js_tree.specs.SimpleScripts.{is_simple_init, is_simple_declarator, is_simple_form, is_simple_statement, has_functions, is_simple, is_short, sum_in}
+use Rattle.js_tree.specs.Count.{in_expr, in_maybe, in_declarators, in_stmt}
+use Rattle.js_tree.specs.SimpleScripts.{is_simple_init, is_simple_declarator, is_simple_form, is_simple_statement, is_short, sum_in}
 use Rattle.js_machine.proofs.Forms.{in_stmt-var}
 use Rattle.js_grammar.specs.Rest.{Rest, Reading, ◌>>=◌, ◌>>◌, give, here, at_end, sees_second, of_first, part, finish_stmt, next, expect, repeat, is_empty, place_of}
 use Rattle.js_grammar.specs.Rest as R
@@ -47,10 +42,9 @@ use Rattle.js_grammar.specs.Ends as N
 use Rattle.js_grammar.specs.Declarators as D
 use Rattle.js_grammar.specs.Blocks as B
 use Rattle.js_grammar.specs.Statements as S
-use Rattle.js_grammar.specs.Reading.{productions, at_the_end, chosen, grammar_on, grammar, script_of, beginning, read, read_by}
-use Rattle.script_reader.proofs.Claims.{token_weight, weight, After, Ends, Still, bind, any, past, weaker, gives, refuses, misses, still, here_still, sees_still, look, chooses, bars, takes, takes_form, opens, allowed, finishes_stmt, repeats}
+use Rattle.script_reader.proofs.Claims.{token_weight, Ends, bind, any, past, weaker, gives, refuses, misses, here_still, sees_still, look, chooses, bars, takes, takes_form, opens, allowed, finishes_stmt, repeats}
 use Rattle.script_reader.proofs.SumNodes.{Costs, short_few, short_sum}
-use Rattle.script_reader.proofs.FewInExpressions.{Few, expects, later_still, assignment_is_few, unary_is_few, expression_by_costs}
+use Rattle.script_reader.proofs.FewInExpressions.{Few, expects, later_still}
 
 -- ---- declarators
 
@@ -117,14 +111,16 @@ module _ (g : Grammar) (few : Few g) where
   declarators_few allows_in first w = repeats Lists (declarators_keep allows_in) (first ∷ []) w
 
   var_costs : (w v u z y x : ℕ) (at : Place) (first : Declarator) (ds : List Declarator) → v + 3 ≤ w → u + 1 ≤ v → Inits u first z → Lists z (first ∷ []) ds y → x ≤ y → StmtCosts w (record { at = at; form = s.Var ds }) x
-  var_costs w v u z y x at first ds heavy name init list le = record { cost = λ simple.
-      let all : list_all is_simple_declarator ds ≡ true = ap (λ l. is_simple_form l) (sym (s.outs-Var ds)) ∙ simple in
-      let h = list all in
-      let inner = and_parts _ (is_simple_init first.init) (and_parts (is_simple_declarator first) true h.0).0 in
-      let zero : in_declarators [] + in_maybe first.init ≡ in_maybe first.init = omega arith in
-      let none : in_declarators (first ∷ []) ≡ in_maybe first.init = one_more [] first ∙ zero in
-      let nodes = in_stmt-var at ds in
-      omega (arith, heavy, name, init inner.1, h.1, le, none, nodes) }
+  var_costs w v u z y x at first ds heavy name init list le = record {
+    cost = λ simple.
+        let all : list_all is_simple_declarator ds ≡ true = ap (λ l. is_simple_form l) (sym (s.outs-Var ds)) ∙ simple in
+        let h = list all in
+        let inner = and_parts _ (is_simple_init first.init) (and_parts (is_simple_declarator first) true h.0).0 in
+        let zero : in_declarators [] + in_maybe first.init ≡ in_maybe first.init = omega arith in
+        let none : in_declarators (first ∷ []) ≡ in_maybe first.init = one_more [] first ∙ zero in
+        let nodes = in_stmt-var at ds in
+        omega (arith, heavy, name, init inner.1, h.1, le, none, nodes);
+  }
 
   var_few : {w : ℕ} (v : ℕ) (at : Place) → v + 3 ≤ w → Ends v (S.var_behind g at) (StmtCosts w)
   unfolding S.var_behind

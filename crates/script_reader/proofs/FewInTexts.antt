@@ -1,16 +1,14 @@
 -- A simple script has few nodes for its text.
-use Rattle.std.proofs.Common.{◌≡◌, ℕ, zero, suc, ◌+◌, ◌-◌, ◌*◌, ◌≤◌, Bool, true, false, cond, List, [], ◌∷◌, ◌++◌, length, map, take, drop, refl, ap, sym, ◌∙◌, subst, arith}
-use Rattle.std.specs.Prelude.{Option, Some, None, Result, Ok, Err, sum, not, ◌&&◌, ◌||◌, ◌==◌, nat_eq, nat_lt, slice_index, slice_get}
-use Rattle.std.specs.List.{list_all, prefix_len}
-use Rattle.std.specs.Str.{bytes_eq, chars, is_utf8}
-use Rattle.std.proofs.lemmas.Bool.{and_parts, both_ways, cases_Bool}
-use Rattle.std.proofs.lemmas.Bool.Decides.{nat_tests}
+use Rattle.std.proofs.Common.{◌≡◌, ℕ, zero, suc, ◌+◌, ◌-◌, ◌*◌, ◌≤◌, Bool, true, false, cond, List, [], ◌∷◌, ◌++◌, length, map, refl, ap, sym, ◌∙◌, arith}
+use Rattle.std.specs.Prelude.{Option, Some, None, Result, Ok, Err, sum, not, ◌&&◌}
+use Rattle.std.specs.List.{list_all}
+use Rattle.std.specs.Str.{chars, is_utf8}
+use Rattle.std.proofs.lemmas.Bool.{and_parts, both_ways}
 use Rattle.std.proofs.lemmas.List.Folds.{list_all-append}
 use Rattle.std.proofs.lemmas.List.Sums.{sum_by_push, sum-map}
 use Rattle.js_tree.specs.declared.refusal.ReadRefused.{ReadRefused}
-use Rattle.js_tree.specs.declared.refusal.ReadRefused.TheVariants.{Syntax, Unsupported}
+use Rattle.js_tree.specs.declared.refusal.ReadRefused.TheVariants.{Unsupported}
 use Rattle.js_tree.specs.declared.refusal.Feature.TheVariants as feature
-use Rattle.js_tree.specs.declared.expression.Expr.{Expr}
 use Rattle.js_tree.specs.declared.statement.Func.{Func}
 use Rattle.js_tree.specs.declared.statement.Script.{Script}
 use Rattle.js_tree.specs.declared.statement.Stmt.{Stmt}
@@ -19,11 +17,11 @@ use Rattle.js_tree.specs.declared.token.Tokens.{Tokens}
 use Rattle.js_tree.specs.Count.{in_stmt, in_stmts, in_func, nodes}
 use Rattle.js_tree.specs.Simple.{reads_declared}
 use Rattle.js_tree.specs.SimpleScripts.{is_simple_statement, has_functions, is_simple}
-use Rattle.js_grammar.specs.Rest.{Rest, Reading, give, at_end, sees, part, is_empty, repeat}
+use Rattle.js_grammar.specs.Rest.{Rest, Reading, at_end, is_empty}
 use Rattle.js_grammar.specs.Marks
 use Rattle.js_grammar.specs.Functions as F
 use Rattle.js_grammar.specs.Functions.{Grammar}
-use Rattle.js_grammar.specs.Reading.{productions, at_the_end, chosen, grammar_on, grammar, script_of, beginning, read, read_by}
+use Rattle.js_grammar.specs.Reading.{productions, at_the_end, chosen, grammar_on, grammar, script_of, read, read_by}
 use Rattle.std.specs.Str.Lossy.{utf8_valid_len}
 use Rattle.std.proofs.lemmas.Str.{IsUtf8-from_is_utf8}
 use Rattle.js_tree.specs.Refusals.{place, syntax}
@@ -34,8 +32,7 @@ use Rattle.js_lex.proofs.Scanning.{length_within_width}
 use Rattle.js_grammar.specs.Checked.{unless_fault, checked, read_checked}
 use Rattle.script_reader.specs.Reads.{read_tokens, reads}
 use Rattle.script_reader.proofs.FewInTokens.{tokens_fit}
-use Rattle.script_reader.proofs.Claims.{token_weight, weight, After, Ends, Still, bind, any, past, weaker, gives, refuses, misses, still, here_still, sees_still, look, chooses, opens, repeats}
-use Rattle.script_reader.proofs.SumNodes.{Costs}
+use Rattle.script_reader.proofs.Claims.{weight, After, Ends, bind, weaker, gives, refuses, misses, still, here_still, sees_still, look, chooses, opens, repeats}
 use Rattle.script_reader.proofs.FewInExpressions.{Few, assignment_is_few, unary_is_few}
 use Rattle.script_reader.proofs.FewInStatements.{StmtCosts, element_few}
 

@@ -1,11 +1,10 @@
 -- The tokens of a text are not longer than the text, where `var` counts three.
-use Rattle.std.proofs.Common.{◌≡◌, ℕ, zero, suc, pos, ◌+◌, ◌-◌, ◌*◌, ◌≤◌, Bool, true, false, cond, List, [], ◌∷◌, ◌++◌, length, map, take, drop, refl, ap, sym, ◌∙◌, subst, arith, ⊎_elim, inl, inr}
+use Rattle.std.proofs.Common.{◌≡◌, ℕ, zero, suc, ◌+◌, ◌-◌, ◌≤◌, Bool, true, false, cond, List, [], ◌∷◌, ◌++◌, length, map, take, drop, refl, ap, sym, ◌∙◌, subst, arith, ⊎_elim, inl, inr}
 use Rattle.std.specs.Prelude.{Option, Some, None, Result, Ok, Err, ◌⊎◌, not, ◌&&◌, ◌||◌, ◌==◌, nat_eq, nat_lt, slice_index}
-use Rattle.std.specs.Char.{is_ascii_digit, is_ascii_hexdigit, len_utf8}
+use Rattle.std.specs.Char.{is_ascii_digit, len_utf8}
 use Rattle.std.specs.Char.Escape.{encode_utf16}
-use Rattle.std.specs.Cmp.Lexicographic.{pointwise}
 use Rattle.std.specs.List.{list_all, prefix_len}
-use Rattle.std.specs.Str.{bytes_eq, chars, is_utf8}
+use Rattle.std.specs.Str.{bytes_eq}
 use Rattle.std.proofs.lemmas.Bool.{and_parts, both_ways, cases_Bool}
 use Rattle.std.proofs.lemmas.Bool.Decides.{nat_tests}
 use Rattle.std.proofs.lemmas.List.{length-take}
@@ -21,8 +20,8 @@ use Rattle.js_tree.specs.declared.token.TheConstants.{KEYWORDS}
 use Rattle.js_tree.specs.declared.token.TokenForm.{TokenForm}
 use Rattle.js_tree.specs.declared.token.TokenForm.TheVariants as form
 use Rattle.js_tree.specs.declared.token.Token.{Token}
-use Rattle.js_tree.specs.Lexing.{is_name_start, is_name_part, is_white_space, is_line_end, Scan, token, line_comment, block_comment, greatest, begins_exponent, begins_hexadecimal, units, is_proto, word, lookup, reserved_word, name_or_reserved, name, longest_punctuator, punctuator, whole, decimal, hexadecimal, number, escape, escaped, string_from, string, scan_token, scan, Lexed, with_front, kept, line_after, going_on, lex_from}
-use Rattle.script_reader.proofs.Claims.{token_weight, weight, some_weight}
+use Rattle.js_tree.specs.Lexing.{is_name_start, is_name_part, is_white_space, is_line_end, Scan, token, block_comment, greatest, begins_exponent, begins_hexadecimal, units, is_proto, word, lookup, reserved_word, name_or_reserved, name, longest_punctuator, punctuator, whole, number, escape, escaped, string_from, scan_token, scan, Lexed, with_front, kept, line_after, going_on, lex_from}
+use Rattle.script_reader.proofs.Claims.{token_weight, weight}
 
 -- a token weighs one, or not more than it takes of the text
 abbrev TokenFits : List ℕ → InputElement → ℕ → Type 0

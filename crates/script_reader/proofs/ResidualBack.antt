@@ -1,13 +1,13 @@
 -- The residual of variables is read from its text.
-use Rattle.std.proofs.Common.{◌≡◌, ℕ, true, List, [], ◌∷◌, length, map, refl, ap, ◌∙◌, ◌++◌, ◌+◌}
-use Rattle.std.specs.Prelude.{Ok, Some, None, codes}
+use Rattle.std.proofs.Common.{◌≡◌, ℕ, true, List, [], ◌∷◌, refl, ap, ◌∙◌}
+use Rattle.std.specs.Prelude.{Ok}
 use Rattle.std.specs.Str.{is_utf8, chars}
 use Rattle.js_value.specs.declared.primitive.Primitive.{Primitive}
 use Rattle.js_tree.specs.Early.{early_fault}
 use Rattle.js_tree.specs.Lexing.{lexed}
-use Rattle.js_tree.specs.Residual.{variable, snapshot}
+use Rattle.js_tree.specs.Residual.{snapshot}
 use Rattle.js_tree.specs.SimpleTokens.{place}
-use Rattle.js_tree.specs.Text.{declarators_text, script_text}
+use Rattle.js_tree.specs.Text.{script_text}
 use Rattle.js_grammar.specs.Checked.{unless_fault, checked, read_checked}
 use Rattle.js_grammar.specs.Functions.{elements}
 use Rattle.js_grammar.specs.Rest.{repeat}
@@ -17,7 +17,7 @@ use Rattle.js_grammar.specs.Reading.{read, read_by}
 use Rattle.js_machine.specs.Readable.{is_readable, placed}
 use Rattle.script_reader.specs.Reads.{read_tokens, reads}
 use Rattle.script_reader.proofs.ResidualTokens.{residual_tokens, lexed-snapshot}
-use Rattle.script_reader.proofs.ResidualReading.{Allows, elements-read}
+use Rattle.script_reader.proofs.ResidualReading.{elements-read}
 use Rattle.script_reader.proofs.ResidualEarly.{literal-low, minus-low, statement-low, no_fault}
 
 read-residual : (v : List ℕ × Primitive) (vs : List (List ℕ × Primitive)) (end : ℕ) → is_readable (v ∷ vs) ≡ true

@@ -1,25 +1,22 @@
 -- The residual of variables has no early fault, and is low.
-use Rattle.std.proofs.Common.{◌≡◌, ℕ, zero, suc, pos, negsuc, ◌+◌, Bool, true, false, cond, List, [], ◌∷◌, ◌++◌, length, refl, ap, sym, ◌∙◌, append-nil, arith}
-use Rattle.std.specs.Prelude.{Option, Some, None, ◌&&◌}
-use Rattle.std.specs.List.{list_all, flat_map}
+use Rattle.std.proofs.Common.{◌≡◌, ℕ, suc, pos, negsuc, ◌+◌, true, List, [], ◌∷◌, ◌++◌, length, refl, ap, ◌∙◌}
+use Rattle.std.specs.Prelude.{None}
+use Rattle.std.specs.List.{list_all}
 use Rattle.js_value.specs.declared.place.Place.{Place}
 use Rattle.js_value.specs.declared.place.FuncNo.{FuncNo}
 use Rattle.js_value.specs.declared.primitive.Primitive.{Primitive}
 use Rattle.js_value.specs.declared.primitive.Primitive.TheVariants as primitive
 use Rattle.js_value.specs.declared.operator.UnaryOp.TheVariants as unary
-use Rattle.js_tree.specs.declared.expression.Expr.{Expr}
 use Rattle.js_tree.specs.declared.expression.ExprForm.TheVariants.{outs-Literal, outs-Unary}
-use Rattle.js_tree.specs.declared.statement.Case.{Case}
 use Rattle.js_tree.specs.declared.statement.Declarator.{Declarator}
-use Rattle.js_tree.specs.declared.statement.Func.{Func}
-use Rattle.js_tree.specs.declared.statement.Stmt.{Stmt, fold-Stmt}
+use Rattle.js_tree.specs.declared.statement.Stmt.{fold-Stmt}
 use Rattle.js_tree.specs.declared.statement.StmtForm.TheOpen.{StmtForm-F, Case-F, Catch-F, Finally-F, Stmt-F}
 use Rattle.js_tree.specs.declared.statement.StmtForm.TheVariants.{Var, outs-Var}
 use Rattle.js_tree.specs.declared.statement.StmtForm.TheFolds.{fold_out-StmtForm, fold_out-Stmt}
 use Rattle.js_tree.specs.SimpleTokens.{place}
 use Rattle.js_tree.specs.Simple.{literal, minus, var_at}
-use Rattle.js_tree.specs.Early.{At, Places, places_in, breaks, continues, returns, syntax_all, lesser, early_fault, mention_faults}
-use Rattle.js_tree.specs.Mentions.{Mention, Ms, Mentioned, FieldMentions, form_mentions, field_mentions, expr_mentions, maybe_mentions, declarator_mentions, stmt_form_mentions, stmt_mentions, body_mentions, mentions, unbound}
+use Rattle.js_tree.specs.Early.{At, Places, places_in, breaks, continues, returns, early_fault}
+use Rattle.js_tree.specs.Mentions.{Mention, Mentioned, FieldMentions, maybe_mentions, declarator_mentions, body_mentions, mentions}
 use Rattle.js_grammar.specs.Heights.{body_of, or_true, parts_fit, stmt_parts_fit, is_within, is_stmt_within}
 use Rattle.js_machine.proofs.Forms.{fold-literal, fold-minus}
 use Rattle.js_machine.specs.Readable.{constant_at, variables_at, place_behind, placed}

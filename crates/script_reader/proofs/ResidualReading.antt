@@ -1,6 +1,6 @@
 -- The tokens of the residual of variables are read as its script.
-use Rattle.std.proofs.Common.{◌≡◌, ℕ, zero, suc, pos, negsuc, ◌+◌, Bool, true, false, cond, List, [], ◌∷◌, ◌++◌, length, refl, ap, sym, ◌∙◌, append_assoc, append-nil, subst, map, arith}
-use Rattle.std.specs.Prelude.{codes, Option, Some, None, Result, Ok, Err, ℤ}
+use Rattle.std.proofs.Common.{◌≡◌, ℕ, suc, pos, negsuc, ◌+◌, Bool, true, false, List, [], ◌∷◌, ◌++◌, length, refl, ap, sym, ◌∙◌, append_assoc, append-nil}
+use Rattle.std.specs.Prelude.{codes, Option, Some, None, Result, Ok}
 use Rattle.js_value.specs.declared.place.Place.{Place}
 use Rattle.js_value.specs.declared.primitive.Primitive.{Primitive}
 use Rattle.js_value.specs.declared.primitive.Primitive.TheVariants as primitive
@@ -10,18 +10,16 @@ use Rattle.js_tree.specs.declared.refusal.ReadRefused.{ReadRefused}
 use Rattle.js_tree.specs.declared.statement.Declarator.{Declarator}
 use Rattle.js_tree.specs.declared.statement.Func.{Func}
 use Rattle.js_tree.specs.declared.statement.Stmt.{Stmt}
-use Rattle.js_tree.specs.declared.statement.StmtForm.{out-StmtForm}
 use Rattle.js_tree.specs.declared.token.Keyword.TheVariants as keyword
 use Rattle.js_tree.specs.declared.token.Punctuator.{Punctuator}
 use Rattle.js_tree.specs.declared.token.Punctuator.TheVariants as mark
 use Rattle.js_tree.specs.declared.token.TokenForm.TheVariants as form
 use Rattle.js_tree.specs.declared.token.Token.{Token}
-use Rattle.js_tree.specs.declared.token.Tokens.{Tokens}
 use Rattle.js_tree.specs.SimpleTokens.{place}
 use Rattle.js_tree.specs.Simple.{literal, minus}
-use Rattle.js_grammar.specs.Rest.{Rest, next, repeat, enter, leave, part, begin, keep, numbered, finish, finish_stmt}
-use Rattle.js_grammar.specs.Functions.{declared_name, parameters, elements, function_body, function_behind, accessor, function_expression, function_declaration}
-use Rattle.js_grammar.specs.Primary.{abstract_behind, expression_by, residual_behind, array_behind, property, object_behind, group_behind, arguments_behind, new_or_none, enclosed_or_new, new_behind, member, left_hand_side}
+use Rattle.js_grammar.specs.Rest.{Rest, next, repeat, enter, leave, part, finish, finish_stmt}
+use Rattle.js_grammar.specs.Functions.{declared_name, elements}
+use Rattle.js_grammar.specs.Primary.{expression_by, new_or_none, enclosed_or_new, left_hand_side}
 use Rattle.js_grammar.specs.Expressions.{postfix, unary, multiplicative, additive, shift, relational, equality, bit_and, bit_xor, bit_or, logical_and, logical_or, conditional, assignment}
 use Rattle.js_grammar.specs.Ends.{ends}
 use Rattle.js_grammar.specs.Reading.{productions, grammar, script_of}
@@ -43,7 +41,7 @@ use Rattle.std.specs.Fmt.{decimal}
 use Rattle.std.proofs.Common.{⊎_elim, not}
 use Rattle.std.proofs.lemmas.Bool.{cases_Bool, and_parts, not-true, both_ways}
 use Rattle.std.proofs.lemmas.Slice.Eq.{bytes_eq-Decides}
-use Rattle.script_reader.proofs.ResidualTokens.{token_at, value_tokens, variable_tokens, variables_tokens, residual_tokens}
+use Rattle.script_reader.proofs.ResidualTokens.{token_at, value_tokens, variables_tokens}
 
 module _ (end : Place) (exprs : List Func → Expr → Bool) (stmts : List Func → Stmt → Bool) where
   -- what is left while the residual's statement is read, and with so many parts open
@@ -74,7 +72,7 @@ module _ (end : Place) (exprs : List Func → Expr → Bool) (stmts : List Func 
   -- a literal before one of them
   literal-read : (comma : Bool) (at to from : ℕ) (n : ℕ) (more : List Token) (last : Option Token) → Allows
       → grammar.assignment true (left_of (token_at at to (form.Number (pos n)) ∷ ending_at comma from ∷ more) last)
-        ≡ Ok (literal (place at) (pos n), left_of (ending_at comma from ∷ more) (Some (token_at at to (form.Number (pos n)))))
+      ≡ Ok (literal (place at) (pos n), left_of (ending_at comma from ∷ more) (Some (token_at at to (form.Number (pos n)))))
   unfolding out-ExprForm next repeat enter leave part finish expression_by new_or_none enclosed_or_new left_hand_side postfix unary multiplicative additive shift relational equality
       bit_and bit_xor bit_or logical_and logical_or conditional assignment productions grammar
   literal-read true at to from n more last h = rw (h.literals (place at) n) refl
@@ -83,7 +81,7 @@ module _ (end : Place) (exprs : List Func → Expr → Bool) (stmts : List Func 
   -- the same as an operand
   operand-read : (comma : Bool) (at to from : ℕ) (n : ℕ) (more : List Token) (last : Option Token) → Allows
       → grammar.unary (left_in 2 (token_at at to (form.Number (pos n)) ∷ ending_at comma from ∷ more) last)
-        ≡ Ok (literal (place at) (pos n), left_in 2 (ending_at comma from ∷ more) (Some (token_at at to (form.Number (pos n)))))
+      ≡ Ok (literal (place at) (pos n), left_in 2 (ending_at comma from ∷ more) (Some (token_at at to (form.Number (pos n)))))
   unfolding out-ExprForm next repeat enter leave part finish new_or_none enclosed_or_new left_hand_side postfix unary productions grammar
   operand-read true at to from n more last h = rw (h.literals (place at) n) refl
   operand-read false at to from n more last h = rw (h.literals (place at) n) refl
@@ -91,7 +89,7 @@ module _ (end : Place) (exprs : List Func → Expr → Bool) (stmts : List Func 
   -- a negated literal before one of them
   negation-read : (comma : Bool) (at to from behind next_at : ℕ) (n : ℕ) (more : List Token) (last : Option Token) → Allows
       → grammar.assignment true (left_of (token_at at to (form.Punctuator mark.Minus) ∷ token_at from behind (form.Number (pos n)) ∷ ending_at comma next_at ∷ more) last)
-        ≡ Ok (minus (place at) (literal (place from) (pos n)), left_of (ending_at comma next_at ∷ more) (Some (token_at from behind (form.Number (pos n)))))
+      ≡ Ok (minus (place at) (literal (place from) (pos n)), left_of (ending_at comma next_at ∷ more) (Some (token_at from behind (form.Number (pos n)))))
   unfolding out-ExprForm next repeat enter leave part finish expression_by new_or_none enclosed_or_new left_hand_side postfix unary multiplicative additive shift relational equality
       bit_and bit_xor bit_or logical_and logical_or conditional assignment
   negation-read true at to from behind next_at n more last h =
@@ -173,14 +171,11 @@ module _ (end : Place) (exprs : List Func → Expr → Bool) (stmts : List Func 
   variable-read [] at from v last h = initialiser-read false (record { at = place at; text = v.0 }) (at + length v.0) from v.1 [] last h
   variable-read (w ∷ ws) at from v last h = initialiser-read true (record { at = place at; text = v.0 }) (at + length v.0) (at + length (declarator_text (variable v))) v.1 _ last h
 
-
-
-
   -- one more declarator is read
   one-more : (again : List Declarator → Reading (List Declarator)) (so_far : List Declarator) (ws : List (List ℕ × Primitive)) (at from : ℕ) (w : List ℕ × Primitive) (comma : ℕ) (last : Option Token)
       → is_simple_name w.0 ≡ true → (h : Allows)
       → more_declarators grammar true again so_far (left_of (ending_at true comma ∷ (variables_tokens at w ws ++ ending_at false from ∷ [])) last)
-        ≡ again (so_far ++ (variable_at at w ∷ [])) (left_of (behind_variable at w ws (ending_at false from)) (variable-read ws at from w (Some (token_at at (at + length w.0) (form.Name w.0))) h).last)
+      ≡ again (so_far ++ (variable_at at w ∷ [])) (left_of (behind_variable at w ws (ending_at false from)) (variable-read ws at from w (Some (token_at at (at + length w.0) (form.Name w.0))) h).last)
   unfolding next
   one-more again so_far ws at from w comma last simple h =
       let semicolon = ending_at false from in

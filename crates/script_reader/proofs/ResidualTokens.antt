@@ -1,13 +1,12 @@
 -- The tokens of the text of variables.
-use Rattle.std.proofs.Common.{◌≡◌, ℕ, zero, suc, pos, negsuc, ◌+◌, ◌-◌, ◌<◌, ◌≤◌, ◌^◌, Bool, true, false, not, ◌&&◌, ◌||◌, cond, List, [], ◌∷◌, ◌++◌, length, take, drop, refl, ap, sym, ◌∙◌, ⊎_elim, add-zero, append_assoc, append-nil, subst, map, arith, length-append}
-use Rattle.std.specs.Prelude.{codes, Option, Some, None, Result, Ok, Err, slice_index, ◌==◌, nat_lt, nat_eq, int_le, neg_ℤ, fold, ◌*◌}
+use Rattle.std.proofs.Common.{◌≡◌, ℕ, zero, suc, pos, negsuc, ◌+◌, ◌-◌, ◌<◌, ◌≤◌, Bool, true, false, not, ◌&&◌, ◌||◌, cond, List, [], ◌∷◌, ◌++◌, length, take, drop, refl, ap, sym, ◌∙◌, ⊎_elim, add-zero, append_assoc, append-nil, subst, map, arith, length-append}
+use Rattle.std.specs.Prelude.{codes, Some, None, Ok, Err, slice_index, ◌==◌, nat_lt, int_le, neg_ℤ, fold, ◌*◌}
 use Rattle.std.specs.Char.{is_ascii_digit, is_ascii_hexdigit, digit_value, len_utf8}
-use Rattle.std.specs.Cmp.Lexicographic.{pointwise}
 use Rattle.std.specs.Fmt.{decimal}
 use Rattle.std.specs.List.{list_all, list_any, prefix_len}
-use Rattle.std.specs.Str.{bytes_eq, chars, is_utf8}
-use Rattle.std.specs.Str.Parse.{digits_value, digits_value_after}
-use Rattle.std.proofs.lemmas.Bool.{leb-true, cases_Bool, and_parts, or_parts, not-true, and_from, both_ways, cond-false}
+use Rattle.std.specs.Str.{bytes_eq}
+use Rattle.std.specs.Str.Parse.{digits_value_after}
+use Rattle.std.proofs.lemmas.Bool.{leb-true, cases_Bool, and_parts, or_parts, not-true, and_from, both_ways}
 use Rattle.std.proofs.lemmas.Bool.Decides.{nat_tests}
 use Rattle.std.proofs.lemmas.List.{take_at}
 use Rattle.std.proofs.lemmas.List.Folds.{list_any-append, list_all-append}
@@ -22,7 +21,6 @@ use Rattle.js_tree.specs.Residual.{variable, snapshot}
 use Rattle.js_tree.specs.Text.{behind_sign, declarator_text, declarators_text, script_text}
 use Rattle.js_tree.specs.Refusals.{unsupported, syntax}
 use Rattle.js_tree.specs.declared.refusal.Feature.TheVariants as feature
-use Rattle.js_tree.specs.declared.refusal.ReadRefused.{ReadRefused}
 use Rattle.js_tree.specs.declared.token.Keyword.{Keyword}
 use Rattle.js_tree.specs.declared.token.Keyword.TheVariants as keyword
 use Rattle.js_tree.specs.declared.token.Punctuator.TheVariants as mark
@@ -31,17 +29,16 @@ use Rattle.js_tree.specs.declared.token.TokenForm.TheVariants as form
 use Rattle.js_tree.specs.declared.token.InputElement.{InputElement}
 use Rattle.js_tree.specs.declared.token.InputElement.TheVariants as element
 use Rattle.js_tree.specs.declared.token.Token.{Token}
-use Rattle.js_tree.specs.declared.token.Tokens.{Tokens}
 use Rattle.js_tree.specs.declared.token.TheConstants.{KEYWORDS}
 use Rattle.js_tree.specs.declared.simple.TheConstants.{TAKEN_WORDS}
 use Rattle.js_tree.specs.SimpleTokens as simple
 use Rattle.js_tree.specs.SimpleTokens.{place, is_taken, is_simple_name}
-use Rattle.js_tree.specs.Lexing.{is_name_start, is_name_part, width, units, is_proto, Scan, token, word, lookup, reserved_word, name_or_reserved, name, number, whole, value, begins_hexadecimal, begins_exponent, decimal as decimal_at, longest_punctuator, scan_token, scan, Lexed, with_front, kept, line_after, going_on, lex_from, ended, lexed}
+use Rattle.js_tree.specs.Lexing.{is_name_start, is_name_part, width, units, is_proto, token, word, lookup, reserved_word, name_or_reserved, name, number, whole, value, begins_hexadecimal, begins_exponent, decimal as decimal_at, longest_punctuator, scan_token, scan, Lexed, with_front, kept, line_after, going_on, lex_from, lexed}
 use Rattle.js_lex.proofs.Going.{front_front, lexed_text}
 use Rattle.js_machine.proofs.Lexing.{IsLiteral, IsLiteral-decimal, safe_negsuc, behind_sign-literal}
 use Rattle.js_machine.proofs.Texts.{value_text, init_text-constant, script_text-var}
 use Rattle.js_machine.specs.Readable.{is_plain_value, is_readable_variable, is_readable, place_behind}
-use Rattle.script_reader.proofs.Characters.{IsAscii-all, all_ascii, below, utf8-ascii, chars-ascii, width-ascii, units-ascii, part_ascii, start-simple, part-simple, start_no_space, start_no_line_end, start_no_slash, digit_no_space, digit_no_line_end, digit_no_slash, digit_ascii, digit_no_start}
+use Rattle.script_reader.proofs.Characters.{IsAscii-all, all_ascii, below, chars-ascii, width-ascii, units-ascii, part_ascii, start-simple, part-simple, start_no_space, start_no_line_end, start_no_slash, digit_no_space, digit_no_line_end, digit_no_slash, digit_ascii, digit_no_start}
 
 -- ---- pieces of a text
 
@@ -255,7 +252,7 @@ decimal-front at n ds rest is stops =
     let ends = slice_index-append ds rest in
     let point : (slice_index z (length ds) == 46) ≡ false = ap (λ c. c == 46) ends ∙ stops.point in
     let behind : begins_exponent (drop (length ds) z) ≡ false =
-        ap begins_exponent (drop_front ds rest) ∙ ap (λ b. b && (is_ascii_digit (slice_index rest 1) || (slice_index rest 1 == 43 || slice_index rest 1 == 45) && is_ascii_digit (slice_index rest 2))) stops.exponent in
+    ap begins_exponent (drop_front ds rest) ∙ ap (λ b. b && (is_ascii_digit (slice_index rest 1) || (slice_index rest 1 == 43 || slice_index rest 1 == 45) && is_ascii_digit (slice_index rest 2))) stops.exponent in
     let number : value 10 (take (length ds) z) ≡ n = ap (value 10) (take_at ds rest (length ds) refl) ∙ value_same ds 0 ∙ is.value in
     ap (λ b. cond (b || begins_exponent (drop (length ds) z)) (unsupported at feature.NumberLiteral) (whole at (length ds) (value 10 (take (length ds) z)) z)) point
     ∙ ap (λ b. cond b (unsupported at feature.NumberLiteral) (whole at (length ds) (value 10 (take (length ds) z)) z)) behind
@@ -468,15 +465,15 @@ lexed-snapshot v vs readable =
     let text = declarators_text (map variable (v ∷ vs)) in
     let behind : ℕ = 0 + length (codes "var " ++ text) in
     let whole : Lexes 0 ((codes "var " ++ text) ++ codes ";") (residual_tokens v vs) (codes "\n") =
-        Lexes-append 0 (codes "var " ++ text) (codes ";") (codes "\n") (token_at 0 3 (form.Reserved keyword.Var) ∷ variables_tokens 4 v vs) (token_at behind (behind + 1) (form.Punctuator mark.Semicolon) ∷ [])
-        (Lexes-append 0 (codes "var ") text (codes ";\n") (token_at 0 3 (form.Reserved keyword.Var) ∷ []) (variables_tokens 4 v vs) (Lexes-start 0 (text ++ codes ";\n")) (Lexes-variables vs 4 v (codes ";\n") readable (stops-semicolon (codes "\n"))))
-        (Lexes-semicolon behind (codes "\n")) in
+    Lexes-append 0 (codes "var " ++ text) (codes ";") (codes "\n") (token_at 0 3 (form.Reserved keyword.Var) ∷ variables_tokens 4 v vs) (token_at behind (behind + 1) (form.Punctuator mark.Semicolon) ∷ [])
+    (Lexes-append 0 (codes "var ") text (codes ";\n") (token_at 0 3 (form.Reserved keyword.Var) ∷ []) (variables_tokens 4 v vs) (Lexes-start 0 (text ++ codes ";\n")) (Lexes-variables vs 4 v (codes ";\n") readable (stops-semicolon (codes "\n"))))
+    (Lexes-semicolon behind (codes "\n")) in
     let bytes = script_text (snapshot (v ∷ vs)) in
     let pieces : bytes ≡ ((codes "var " ++ text) ++ codes ";") ++ codes "\n" =
-        script_text-var (place 0) (map variable (v ∷ vs)) ∙ last_apart text in
+    script_text-var (place 0) (map variable (v ∷ vs)) ∙ last_apart text in
     let ascii : all_ascii bytes ≡ true =
-        ap all_ascii pieces ∙ list_all-append (λ c. nat_lt c 128) ((codes "var " ++ text) ++ codes ";") (codes "\n") ∙ ap (λ b. b && true) whole.ascii in
+    ap all_ascii pieces ∙ list_all-append (λ c. nat_lt c 128) ((codes "var " ++ text) ++ codes ";") (codes "\n") ∙ ap (λ b. b && true) whole.ascii in
     let tokens : lex_from 0 false 0 bytes ≡ Ok (residual_tokens v vs) =
-        ap (lex_from 0 false 0) pieces ∙ whole.same ∙ ap (with_front (residual_tokens v vs)) (last_line_end (0 + length ((codes "var " ++ text) ++ codes ";")))
-        ∙ ap Ok (append-nil (residual_tokens v vs)) in
+    ap (lex_from 0 false 0) pieces ∙ whole.same ∙ ap (with_front (residual_tokens v vs)) (last_line_end (0 + length ((codes "var " ++ text) ++ codes ";")))
+    ∙ ap Ok (append-nil (residual_tokens v vs)) in
     lexed_text bytes bytes (Ok (residual_tokens v vs)) (IsUtf8-from_ascii bytes (IsAscii-all bytes ascii)) (sym (chars-ascii bytes ascii)) tokens

@@ -1,6 +1,6 @@
 -- The nodes of sums, and which expressions are none.
-use Rattle.std.proofs.Common.{◌≡◌, ℕ, zero, suc, pos, negsuc, ◌+◌, ◌*◌, ◌≤◌, Bool, true, false, cond, List, [], ◌∷◌, refl, ap, sym, ◌∙◌, subst, arith}
-use Rattle.std.specs.Prelude.{nat_le, Option, Some, None}
+use Rattle.std.proofs.Common.{◌≡◌, ℕ, pos, negsuc, ◌+◌, ◌*◌, ◌≤◌, Bool, true, false, cond, List, refl, ap, sym, ◌∙◌, subst, arith}
+use Rattle.std.specs.Prelude.{nat_le, Some}
 use Rattle.std.proofs.lemmas.Bool.{leb-true}
 use Rattle.js_value.specs.declared.place.Place.{Place}
 use Rattle.js_value.specs.declared.primitive.Primitive.{Primitive}
@@ -13,7 +13,7 @@ use Rattle.js_tree.specs.declared.expression.Expr.{Expr}
 use Rattle.js_tree.specs.declared.expression.Field.{Field}
 use Rattle.js_tree.specs.declared.expression.ExprForm.{ExprForm, out-ExprForm}
 use Rattle.js_tree.specs.declared.expression.ExprForm.TheOpen.{ExprForm-F}
-use Rattle.js_tree.specs.declared.expression.ExprForm.TheFolds.{map-ExprForm, fold-ExprForm, fold-Field, fold-Expr}
+use Rattle.js_tree.specs.declared.expression.ExprForm.TheFolds.{map-ExprForm, fold-ExprForm, fold-Field}
 use Rattle.js_tree.specs.declared.expression.ExprForm.TheVariants as e
 use Rattle.js_tree.specs.declared.token.Keyword.TheVariants as keyword
 use Rattle.js_tree.specs.declared.token.TokenForm.{TokenForm}
@@ -21,8 +21,8 @@ use Rattle.js_tree.specs.declared.token.TokenForm.TheVariants as form
 use Rattle.js_tree.specs.SimpleTokens.{greatest_literal, is_simple_name}
 use Rattle.js_grammar.specs.Marks.{literal}
 use Rattle.js_tree.specs.Count.{of_form, of_field, of_expr, in_expr}
-use Rattle.js_tree.specs.SimpleScripts.{Sum, NoSum, LiteralAlone, Terms, joined, negative, sum_form, sum_in, is_short}
-use Rattle.js_tree.proofs.Folds.{fold-layer, fold-of_expr, fold-Binary, fold-Unary, fold-Literal, fold-Name}
+use Rattle.js_tree.specs.SimpleScripts.{Sum, NoSum, LiteralAlone, Terms, joined, sum_form, sum_in, is_short}
+use Rattle.js_tree.proofs.Folds.{fold-layer, fold-of_expr}
 
 abbrev pub is_sum : Sum → Bool
 is_sum NoSum = false
@@ -159,12 +159,14 @@ binary_fit at op a b h k =
 pub binary_grows : (w u v z : ℕ) (left right x : Expr) (op : BinaryOp) → u + 1 ≤ w → Costs u right v → Grows v (node left.at (e.Binary op left right)) x z → Grows w left x z
 binary_grows w u v z left right x op taken r h fit =
     let both = node left.at (e.Binary op left right) in
-    let g = h (binary_fit left.at op left right fit r.0) in
-    (g.0, λ is.
-    let parts = g.1 is in
-    let two = operands left.at op left right parts.0 in
-    let n = nodes_binary left.at op left right in
-    (two.0, omega (arith, taken, r.1 two.1, parts.1, n)))
+    let g = h (binary_fit left.at op left right fit r.0) in (
+      g.0,
+      λ is.
+          let parts = g.1 is in
+          let two = operands left.at op left right parts.0 in
+          let n = nodes_binary left.at op left right in
+          (two.0, omega (arith, taken, r.1 two.1, parts.1, n)),
+    )
 
 pub unary_costs : (w u v : ℕ) (at : Place) (op : UnaryOp) (x : Expr) → u + 1 ≤ w → Costs u x v → Costs w (node at (e.Unary op x)) v
 unary_costs w u v at op x taken h = (

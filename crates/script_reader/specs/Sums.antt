@@ -1,5 +1,5 @@
 -- Sums as far as their terms are counted.
-use Rattle.std.specs.Prelude.{ℕ, ◌+◌, min, Bool, true, false, nat_le}
+use Rattle.std.specs.Prelude.{◌+◌, min, Bool, true, false, nat_le}
 use Rattle.js_tree.specs.declared.expression.ExprForm.{ExprForm, fold-ExprForm}
 use Rattle.js_tree.specs.SimpleScripts as spec
 use Rattle.js_tree.specs.SimpleScripts.{sum_form}

@@ -6,8 +6,6 @@ mod script;
 mod sums;
 mod words;
 
-pub use script::{is_simple, read};
-
 ghost use Rattle.std.specs.Prelude.{◌≡◌, ◌*◌, ◌≤◌, ℕ, List, Ok, IsTrue, length};
 ghost use Rattle.js_value.specs.declared.primitive.Primitive.{Primitive};
 ghost use Rattle.js_tree.specs.declared.statement.Script.{Script};
@@ -17,6 +15,8 @@ ghost use Rattle.js_tree.specs.SimpleScripts as simple;
 ghost use Rattle.js_tree.specs.Text.{script_text};
 ghost use Rattle.js_machine.specs.Readable.{is_readable, placed};
 ghost use Rattle.script_reader.specs.Reads.{reads};
+
+pub use script::{is_simple, read};
 
 /// The residual of readable variables reads back: a law, with nothing to run.
 pub fn residual_law()

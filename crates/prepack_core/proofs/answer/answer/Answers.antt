@@ -1,26 +1,35 @@
 use Rattle.std.proofs.Common.{sym, ◌∙◌, length}
+use Rattle.std.proofs.lemmas.Result.{err_from_is_err_and}
 use Rattle.js_tree.specs.Count.{nodes}
-use Rattle.prepack_core.proofs.Promising.{few_steps, reads-simple, reads-not_simple, residual_of, reason_of}
+use Rattle.prepack_core.proofs.Promising.{few_steps, refused_reason, taken-simple, taken-not_built, residual_of, reason_of}
 use Rattle.prepack_core.proofs.answer.answer.Goals as goal
 
-pub returns-in_default-clause-err : goal.returns-in_default-clause-err
-returns-in_default-clause-err c = reads-not_simple c.args.source.now c.in_ok-script.field-0 c.in_ok-script.ensures.value c.in_default.is
+pub returns-in_err-script-clause-err : goal.returns-in_err-script-clause-err
+returns-in_err-script-clause-err c =
+    let p = err_from_is_err_and c.from_residual.result c.from_residual.ensures.1 in
+    rw p.1 (refused_reason c.args.steps c.args.source.now c.in_err-script.field-0.0 p.0 c.in_err-script.ensures p.2)
+
+pub returns-then-not-branch-clause-err : goal.returns-then-not-branch-clause-err
+returns-then-not-branch-clause-err c =
+    taken-not_built c.args.source.now c.in_ok-script.script c.in_ok-is_simple.field-0 c.in_ok-script.ensures c.in_ok-is_simple.ensures c.if-not-branch.true
 
 pub returns-in-Err-clause-err : goal.returns-in-Err-clause-err
 returns-in-Err-clause-err c =
-    let few = rw c.in-Some.is at c.in_ok-script.ensures.few in
-    reason_of c.args.steps c.args.source.now c.in-Some.script c.in-Err.stop c.report_of.result
-    (reads-simple c.args.source.now 200 c.in_ok-script.field-0 c.in-Some.script c.in_ok-script.ensures.value c.in-Some.is)
-    (few_steps (nodes c.in-Some.script) (length c.args.source.now) c.args.steps few c.requires.short c.requires.enough) c.in-Err.ensures c.report_of.ensures
+    let s = c.in_ok-script.script in
+    let takes = taken-simple c.args.source.now s c.in_ok-is_simple.field-0 c.in_ok-script.ensures c.in_ok-is_simple.ensures c.if-not-branch.false in
+    let few = c.few_nodes_law.ensures c.args.source.now 200 s c.in_ok-script.ensures (sym c.in_ok-is_simple.ensures ∙ c.if-not-branch.false) in
+    reason_of c.args.steps c.args.source.now s c.in-Err.stop c.report_of.result takes (few_steps (nodes s) (length c.args.source.now) c.args.steps few c.requires.short c.requires.enough)
+    c.in-Err.ensures c.report_of.ensures
 
 pub returns-clause-ok : goal.returns-clause-ok
 returns-clause-ok c =
-    let few = rw c.in-Some.is at c.in_ok-script.ensures.few in
+    let s = c.in_ok-script.script in
+    let takes = taken-simple c.args.source.now s c.in_ok-is_simple.field-0 c.in_ok-script.ensures c.in_ok-is_simple.ensures c.if-not-branch.false in
+    let few = c.few_nodes_law.ensures c.args.source.now 200 s c.in_ok-script.ensures (sym c.in_ok-is_simple.ensures ∙ c.if-not-branch.false) in
     let law = c.snapshot_law.ensures in
     let vs = c.in-Ok.variables in
     let readable = c.residual_text.ensures.readable in
-    residual_of c.args.steps c.args.source.now c.in_ok-residual_text-in-Ok.field-0.items c.in-Some.script vs
-    (reads-simple c.args.source.now 200 c.in_ok-script.field-0 c.in-Some.script c.in_ok-script.ensures.value c.in-Some.is)
-    (few_steps (nodes c.in-Some.script) (length c.args.source.now) c.args.steps few c.requires.short c.requires.enough) c.in-Ok.ensures
-    (c.in_ok-residual_text-in-Ok.ensures.text ∙ sym (law.spelled vs readable)) (law.reads_back vs 1024 readable) (law.residual vs) (law.fresh vs c.in-Some.script) (law.same_text vs readable)
+    residual_of c.args.steps c.args.source.now c.in_ok-residual_text-in-Ok.field-0.items s vs c.in_ok-script.ensures takes
+    (few_steps (nodes s) (length c.args.source.now) c.args.steps few c.requires.short c.requires.enough) c.in-Ok.ensures
+    (c.in_ok-residual_text-in-Ok.ensures.text ∙ sym (law.spelled vs readable)) (c.residual_law.ensures.reads_back vs readable) (law.residual vs) (law.fresh vs s) (law.same_text vs readable)
     (λ w. law.rebuilds vs w readable c.residual_text.ensures.distinct)
