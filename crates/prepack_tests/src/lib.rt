@@ -6,4 +6,6 @@ mod outside;
 #[cfg(test)]
 mod program;
 #[cfg(test)]
+mod reading;
+#[cfg(test)]
 mod values;
