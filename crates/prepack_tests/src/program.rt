@@ -82,7 +82,10 @@ fn residuals(rt: HostRuntime) -> Result<(), Fail> {
         ("var a = 0x10;", "var a = 16;\n"),
         ("var a = (1), b = -(2);", "var a = 1, b = -2;\n"),
         ("var a = 1 - (2 - 3);", "var a = 2;\n"),
-        ("var a = 5; var b = a - (3 - (1 + a));", "var a = 5, b = 8;\n"),
+        (
+            "var a = 5; var b = a - (3 - (1 + a));",
+            "var a = 5, b = 8;\n",
+        ),
         ("var a=-1;var $_9=a+a;", "var a = -1, $_9 = -2;\n"),
         (
             "var a = 1+1+1+1+1+1+1+1+1+1+1+1+1+1+1+1+1+1+1+1;",

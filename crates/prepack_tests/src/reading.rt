@@ -122,11 +122,7 @@ fn nested(alloc: Global, sign: &str, count: usize, behind: &str) -> Result<Ran, 
 #[test]
 fn prefix_operators(rt: HostRuntime) -> Result<(), Fail> {
     for (count, status, line) in [
-        (
-            198,
-            Status::Unsupported,
-            "unsupported at 0: not built\n",
-        ),
+        (198, Status::Unsupported, "unsupported at 0: not built\n"),
         (199, Status::Nested, "nested at 0\n"),
     ] {
         let ran = nested(rt.alloc(), "!", count, "0;")?;
