@@ -4,4 +4,10 @@ pub mod Lexing
 pub mod Reading
 pub mod Running
 pub mod Spelled
-pub mod MachineCases
+pub mod Opening
+pub mod ExpressionRuns
+pub mod WorldRuns
+pub mod StatementRuns
+pub mod FunctionRuns
+pub mod ObjectRuns
+pub mod ArrayRuns

@@ -4,4 +4,10 @@ pub mod Runs
 pub mod Listing
 pub mod Readable
 pub mod Machine
-pub mod MachineCases
+pub mod RunCases
+pub mod ExpressionRuns
+pub mod WorldRuns
+pub mod StatementRuns
+pub mod FunctionRuns
+pub mod ObjectRuns
+pub mod ArrayRuns

@@ -13,6 +13,12 @@ ghost use Rattle.js_tree.specs.Simple.{reads};
 ghost use Rattle.js_tree.specs.Text.{script_text};
 ghost use Rattle.js_tree.specs.Count.{nodes};
 ghost use Rattle.js_machine.specs.Runs.{World, Ended, Normal, plain};
+ghost use Rattle.js_machine.specs.ArrayRuns.{ArrayRuns};
+ghost use Rattle.js_machine.specs.ExpressionRuns.{ExpressionRuns};
+ghost use Rattle.js_machine.specs.FunctionRuns.{FunctionRuns};
+ghost use Rattle.js_machine.specs.ObjectRuns.{ObjectRuns};
+ghost use Rattle.js_machine.specs.StatementRuns.{StatementRuns};
+ghost use Rattle.js_machine.specs.WorldRuns.{WorldRuns};
 ghost use Rattle.js_machine.specs.Readable.{is_readable, placed, variables_text};
 
 /// The residual of readable variables reads back, is in residual form, and rebuilds them: a law, with nothing to run.
@@ -28,4 +34,16 @@ pub fn snapshot_law()
     ensures rebuilds { (vs : List (List ℕ × Primitive)) (w : World) → IsTrue (is_readable vs) →
         IsDistinct bytes_eq (keys_of vs) →
         plain (placed vs) w (nodes (placed vs)) ≡ Ended [] Normal vs }
+{}
+
+/// Runs of scripts of the whole language, worked out by hand: what they leave in global variables, what they throw, where and
+/// why they leave the profile, and how many steps they take. Each holds wherever enough nodes may be active at once.
+#[tactic(auto, using(crate::proofs::ExpressionRuns::expression_runs, crate::proofs::StatementRuns::statement_runs, crate::proofs::FunctionRuns::function_runs, crate::proofs::ObjectRuns::object_runs, crate::proofs::ArrayRuns::array_runs, crate::proofs::WorldRuns::world_runs))]
+pub fn run_cases()
+    ensures expressions { ExpressionRuns }
+    ensures statements { StatementRuns }
+    ensures functions { FunctionRuns }
+    ensures objects { ObjectRuns }
+    ensures arrays { ArrayRuns }
+    ensures worlds { WorldRuns }
 {}
