@@ -1,6 +1,7 @@
 -- The evaluation of a node, a call and a built-in, opened once.
-use Rattle.std.proofs.Common.{◌≡◌, ℕ, suc, refl, List}
+use Rattle.std.proofs.Common.{◌≡◌, ℕ, zero, suc, refl, List}
 use Rattle.js_value.specs.declared.place.Place.{Place}
+use Rattle.js_value.specs.declared.why.Why.TheVariants.{Depth}
 use Rattle.js_tree.specs.declared.expression.Expr.{Expr}
 use Rattle.js_tree.specs.declared.expression.ExprForm.{out-ExprForm}
 use Rattle.js_tree.specs.declared.statement.Stmt.{Stmt}
@@ -13,7 +14,7 @@ use Rattle.js_machine.specs.Machine.Objects.{throw_error}
 use Rattle.plain_heap.specs.Heap.{Heap}
 use Rattle.js_machine.specs.Machine.Expressions.{Flow, expr_rule, reference_rule}
 use Rattle.js_machine.specs.Machine.Statements.{stmt_rule}
-use Rattle.js_machine.specs.Machine.Trees.{Run, Tree, Step, Next, repeat, unless_done}
+use Rattle.js_machine.specs.Machine.Trees.{Run, Tree, Step, Leave, Next, repeat, unless_done}
 use Rattle.js_machine.specs.Machine.Names.{Context, Reference}
 use Rattle.js_machine.specs.Machine.Levels.{Setting, Nodes, Builtins, within, ev_of, builtin, call_rule, call_class, class_of, construct_rule, construct_class}
 use Rattle.js_machine.specs.Machine.ObjectBuiltins.{Rule}
@@ -58,6 +59,17 @@ pub at_repeat : (n : ℕ) (once : Run (Next Flow)) (h : Heap) (k : Flow → Heap
     → repeat (suc n) once h k r ≡ once h (λ t s. unless_done (repeat n once) t s k r) r
 unfolding repeat
 at_repeat n once h k r = refl
+
+-- where no more may be active
+module _ (z : ℕ) (none : z ≡ zero) where
+  pub no_more : (set : Setting) (calls : ℕ) (context : Context) (e : Expr) (h : Heap) (k r : Value → Heap → Tree) → (within set z calls).expr context e h k r ≡ Leave Depth e.at
+  unfolding within
+  no_more set calls context e h k r = rw none refl
+
+  pub no_more_builtins : (set : Setting) (nodes : ℕ → Nodes) (at : Place) (rule : Rule) (this : Value) (arguments : List Value) (h : Heap) (k r : Value → Heap → Tree)
+      → builtin set nodes z at rule this arguments h k r ≡ Leave Depth at
+  unfolding builtin
+  no_more_builtins set nodes at rule this arguments h k r = rw none refl
 
 -- what every run opens
 pub ruleset opening = (fold_out-Stmt, fold_out-StmtForm, at_expr, at_reference, at_stmt, at_call, at_builtin, at_construct, at_construct_of, at_repeat)

@@ -11,3 +11,5 @@ pub mod StatementRuns
 pub mod FunctionRuns
 pub mod ObjectRuns
 pub mod ArrayRuns
+pub mod ListingCases
+pub mod RealmCases

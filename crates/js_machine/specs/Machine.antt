@@ -11,3 +11,4 @@ pub mod ArrayBuiltins
 pub mod Realm
 pub mod Levels
 pub mod Walks
+pub mod Listed

@@ -16,7 +16,9 @@ ghost use Rattle.js_machine.specs.Runs.{World, Ended, Normal, plain};
 ghost use Rattle.js_machine.specs.ArrayRuns.{ArrayRuns};
 ghost use Rattle.js_machine.specs.ExpressionRuns.{ExpressionRuns};
 ghost use Rattle.js_machine.specs.FunctionRuns.{FunctionRuns};
+ghost use Rattle.js_machine.specs.ListingCases.{ListingCases};
 ghost use Rattle.js_machine.specs.ObjectRuns.{ObjectRuns};
+ghost use Rattle.js_machine.specs.RealmCases.{RealmCases};
 ghost use Rattle.js_machine.specs.StatementRuns.{StatementRuns};
 ghost use Rattle.js_machine.specs.WorldRuns.{WorldRuns};
 ghost use Rattle.js_machine.specs.Readable.{is_readable, placed, variables_text};
@@ -46,4 +48,18 @@ pub fn run_cases()
     ensures objects { ObjectRuns }
     ensures arrays { ArrayRuns }
     ensures worlds { WorldRuns }
+{}
+
+/// Listings of heaps, worked out by hand: new objects, functions and cells, and what differs of the objects that are there from
+/// the start.
+#[tactic(auto, using(crate::proofs::ListingCases::listing_cases))]
+pub fn listing_cases()
+    ensures { ListingCases }
+{}
+
+/// Cases of the objects that are there from the start, which are a valid heap, and of runs that end since too many nodes or calls
+/// of built-ins are active at once.
+#[tactic(auto, using(crate::proofs::RealmCases::realm_cases))]
+pub fn realm_cases()
+    ensures { RealmCases }
 {}

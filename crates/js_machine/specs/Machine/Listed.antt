@@ -1,0 +1,224 @@
+-- The listing of a heap: all that a script can reach, numbered by one walk, and when two runs agree.
+use Rattle.std.specs.Prelude.{◌≡◌, ℕ, zero, suc, ◌+◌, ◌&&◌, nat_eq, nat_le, nat_lt, Bool, true, false, not, if◌then◌else◌, is_some, List, [], ◌∷◌, ◌++◌, drop, take, length, map, slice_get, Option, Some, None}
+use Rattle.std.specs.List.{filter, flat_map, list_any, position, range_with_len}
+use Rattle.std.specs.Option.{option_eq, option_map}
+use Rattle.js_value.specs.Conversions.{is_same_text, is_same_truth}
+use Rattle.js_value.specs.declared.place.FuncNo.{FuncNo}
+use Rattle.js_tree.specs.Mentions.{Names, free_names}
+use Rattle.js_tree.specs.declared.statement.Script.{Script}
+use Rattle.plain_heap.specs.Heap.{Key, Property, Properties, Data, Accessor, Class, Array, Function, ObjectState, Heap, cell, lookup, object_at, resolve}
+use Rattle.plain_heap.specs.Methods.{or_value}
+use Rattle.plain_heap.specs.Values.{Value, Object, ObjNo, CellNo, ScopeNo, undefined, object_or_null, object_or_undefined}
+use Rattle.js_machine.specs.Machine.Numbers.{global}
+use Rattle.js_machine.specs.Machine.Operators.{is_same}
+use Rattle.js_machine.specs.Machine.Realm.{realm, realm_count}
+use Rattle.js_machine.specs.Machine.Walks.{Outcome, Ended, Ending, Normally, Thrown}
+
+-- ---- the walk
+
+pub data Item : Type 0 where
+  AnObject : ObjNo → Item
+  ACell : CellNo → Item
+
+abbrev pub is_same_item : Item → Item → Bool
+is_same_item (AnObject m) (AnObject n) = nat_eq m n
+is_same_item (ACell m) (ACell n) = nat_eq m n
+is_same_item _ _ = false
+
+abbrev pub in_value : Value → List Item
+in_value (Object o) = AnObject o ∷ []
+in_value v = []
+
+-- the value, or the getter and then the setter
+abbrev pub in_property : Property → List Item
+in_property (Data p) = in_value p.value
+in_property (Accessor p) = in_value (object_or_undefined p.get) ++ in_value (object_or_undefined p.set)
+
+-- the free names of each function
+abbrev pub FreeNames : Type 0
+FreeNames = FuncNo → Names
+
+-- the free names of a function that a scope binds, in the order in which they come first
+abbrev pub captured : FreeNames → Heap → FuncNo → Option ScopeNo → Names
+captured free h f scope = filter (λ name. is_some (resolve h scope name)) (free f)
+
+abbrev pub in_cells : Heap → Option ScopeNo → Names → List CellNo
+in_cells h scope names = flat_map (λ name. or_value [] (option_map (λ c. c ∷ []) (resolve h scope name))) names
+
+abbrev pub in_class : FreeNames → Heap → Class → List Item
+in_class free h (Function f scope) = map (λ c. ACell c) (in_cells h scope (captured free h f scope))
+in_class free h class = []
+
+-- what an item leads to, in order: of an object its prototype, its properties, and the cells that it has captured
+abbrev pub in_object : FreeNames → Heap → ObjectState → List Item
+in_object free h o = in_value (object_or_null o.prototype) ++ flat_map (λ (p : Key × Property). in_property p.1) o.properties ++ in_class free h o.class
+
+abbrev pub next_of : FreeNames → Heap → Item → List Item
+next_of free h (AnObject o) = or_value [] (option_map (in_object free h) (object_at h o))
+next_of free h (ACell c) = in_value (or_value undefined (cell h c))
+
+abbrev pub has_item : List Item → Item → Bool
+has_item items item = list_any (is_same_item item) items
+
+-- those items enter the queue that haven't entered before
+abbrev pub enter : List Item → List Item → List Item
+enter queue [] = queue
+enter queue (item ∷ more) = if has_item queue item then enter queue more else enter (queue ++ item ∷ []) more
+
+-- the object of the realm with the least number that hasn't entered
+abbrev pub left_of_realm : List Item → Option ObjNo
+left_of_realm queue = or_value None (option_map (λ n. Some n) (position (λ o. not (has_item queue (AnObject o))) (range_with_len 0 realm_count)))
+
+-- the queue, and how many of its items were taken
+abbrev pub Walked : Type 0
+Walked = ℕ × List Item
+
+-- What the next item leads to enters. At the end of the queue the realm goes on, until all of it has entered.
+abbrev pub advance : FreeNames → Heap → Walked → Option Item → Walked
+advance free h walked (Some item) = (suc walked.0, enter walked.1 (next_of free h item))
+advance free h walked None = (walked.0, or_value walked.1 (option_map (λ o. walked.1 ++ AnObject o ∷ []) (left_of_realm walked.1)))
+
+-- the items in the order in which they enter the queue
+abbrev pub queue_from : ℕ → FreeNames → Heap → Walked → List Item
+queue_from zero free h walked = walked.1
+queue_from (suc n) free h walked = queue_from n free h (advance free h walked (slice_get walked.1 walked.0))
+
+abbrev pub thrown_item : Ending → List Item
+thrown_item Normally = []
+thrown_item (Thrown v) = in_value v
+
+-- it begins with the global object and the thrown one; each object and each cell is taken once, and each object of the realm enters once
+unfoldable pub queue_of : FreeNames → Heap → Ending → List Item
+queue_of free h ending = queue_from (length h.objects + length h.cells + realm_count) free h (0, enter (AnObject global ∷ []) (thrown_item ending))
+
+-- ---- numbers: objects that aren't of the realm, and cells, are counted from 1 as they enter
+
+abbrev pub is_new_object : Item → Bool
+is_new_object (AnObject o) = nat_le realm_count o
+is_new_object (ACell c) = false
+
+abbrev pub is_cell : Item → Bool
+is_cell (AnObject o) = false
+is_cell (ACell c) = true
+
+abbrev pub rank : (Item → Bool) → List Item → Item → ℕ
+rank sort queue item = or_value 0 (option_map (λ n. n + 1) (position (is_same_item item) (filter sort queue)))
+
+-- ---- rows
+
+pub data ListedValue : Type 0 where
+  -- a primitive, or a symbol
+  Listed : Value → ListedValue
+  NewObject : ℕ → ListedValue
+  RealmObject : ObjNo → ListedValue
+
+pub data ListedProperty : Type 0 where
+  -- with its key, its value, and whether it is writable, enumerable and configurable
+  DataLine : Key → ListedValue → Bool → Bool → Bool → ListedProperty
+  -- with its key, its getter and its setter, and whether it is enumerable and configurable
+  AccessorLine : Key → ListedValue → ListedValue → Bool → Bool → ListedProperty
+
+-- a function has its code, and the numbers of the cells that it has captured
+pub data Sort (C : Type 0) : Type 0 where
+  PlainObject : Sort C
+  ArrayObject : Sort C
+  FunctionObject : C → List ℕ → Sort C
+
+pub data Row (C : Type 0) : Type 0 where
+  -- with its number, its prototype, whether it can't be extended, and its properties
+  NewRow : ℕ → Sort C → ListedValue → Bool → List ListedProperty → Row C
+  CellRow : ℕ → ListedValue → Row C
+  -- what differs of an object of the realm: whether it can't be extended, the keys that are gone, the properties that are others, and
+  -- those that are new
+  RealmRow : ObjNo → Bool → List Key → List ListedProperty → List ListedProperty → Row C
+
+abbrev pub listed_value : List Item → Value → ListedValue
+listed_value queue (Object o) = if nat_lt o realm_count then RealmObject o else NewObject (rank is_new_object queue (AnObject o))
+listed_value queue v = Listed v
+
+abbrev pub listed_property : List Item → Key × Property → ListedProperty
+listed_property queue (key, Data p) = DataLine key (listed_value queue p.value) p.writable p.enumerable p.configurable
+listed_property queue (key, Accessor p) =
+    AccessorLine key (listed_value queue (object_or_undefined p.get)) (listed_value queue (object_or_undefined p.set)) p.enumerable p.configurable
+
+-- ---- what differs of an object of the realm
+
+abbrev pub is_same_function : Option ObjNo → Option ObjNo → Bool
+is_same_function = option_eq nat_eq
+
+abbrev pub is_same_property : Property → Property → Bool
+is_same_property (Data p) (Data q) = is_same p.value q.value && is_same_truth p.writable q.writable && is_same_truth p.enumerable q.enumerable && is_same_truth p.configurable q.configurable
+is_same_property (Accessor p) (Accessor q) = is_same_function p.get q.get && is_same_function p.set q.set && is_same_truth p.enumerable q.enumerable && is_same_truth p.configurable q.configurable
+is_same_property _ _ = false
+
+abbrev pub key_position : Key → Properties → Option ℕ
+key_position key ps = position (λ (p : Key × Property). is_same_text p.0 key) ps
+
+-- how many of the properties now are the longest front whose keys come in the order of those at the start
+abbrev pub old_count : Properties → Properties → ℕ
+old_count start [] = 0
+old_count start (p ∷ ps) = or_value 0 (option_map (λ n. suc (old_count (drop (suc n) start) ps)) (key_position p.0 start))
+
+abbrev pub gone_keys : Properties → Properties → List Key
+gone_keys start old = map (λ (p : Key × Property). p.0) (filter (λ (p : Key × Property). not (is_some (lookup p.0 old))) start)
+
+abbrev pub is_changed : Properties → Key × Property → Bool
+is_changed start p = not (or_value false (option_map (is_same_property p.1) (lookup p.0 start)))
+
+abbrev pub realm_row : {C : Type 0} → List Item → ObjNo → Bool → Properties → Properties → Properties → Row C
+realm_row queue o fixed start old new =
+    RealmRow o fixed (gone_keys start old) (map (listed_property queue) (filter (is_changed start) old)) (map (listed_property queue) new)
+
+abbrev pub differs : {C : Type 0} → Row C → Bool
+differs (RealmRow o false [] [] []) = false
+differs row = true
+
+abbrev pub realm_properties : ObjNo → Properties
+realm_properties o = or_value [] (option_map (λ (state : ObjectState). state.properties) (object_at realm o))
+
+abbrev pub row_of_realm : {C : Type 0} → List Item → ObjNo → ObjectState → Row C
+row_of_realm queue o now =
+    let start = realm_properties o in
+    let n = old_count start now.properties in
+    realm_row queue o (not now.extensible) start (take n now.properties) (drop n now.properties)
+
+-- ---- the listing, with the code of a function as it is given for the free names that a scope binds
+
+module _ {C : Type 0} (code : FuncNo → Names → C) where
+  abbrev pub sort_of : FreeNames → Heap → List Item → Class → Sort C
+  sort_of free h queue Array = ArrayObject
+  sort_of free h queue (Function f scope) =
+      let names = captured free h f scope in
+      FunctionObject (code f names) (map (λ c. rank is_cell queue (ACell c)) (in_cells h scope names))
+  sort_of free h queue class = PlainObject
+
+  abbrev pub object_row : FreeNames → Heap → List Item → ObjNo → ObjectState → Row C
+  object_row free h queue o state =
+      if nat_lt o realm_count then row_of_realm queue o state
+      else NewRow (rank is_new_object queue (AnObject o)) (sort_of free h queue state.class) (listed_value queue (object_or_null state.prototype)) (not state.extensible) (map (listed_property queue) state.properties)
+
+  abbrev pub row_of : FreeNames → Heap → List Item → Item → List (Row C)
+  row_of free h queue (AnObject o) = or_value [] (option_map (λ state. object_row free h queue o state ∷ []) (object_at h o))
+  row_of free h queue (ACell c) = CellRow (rank is_cell queue (ACell c)) (listed_value queue (or_value undefined (cell h c))) ∷ []
+
+  -- the rows in the order of the walk, without those of the realm in which nothing differs
+  unfoldable pub listing_by : FreeNames → Heap → Ending → List (Row C)
+  listing_by free h ending =
+      let queue = queue_of free h ending in
+      filter differs (flat_map (row_of free h queue) queue)
+
+  -- that of a run of a script
+  abbrev pub listing : Script → Heap → Ending → List (Row C)
+  listing script h ending = listing_by (free_names script) h ending
+
+  -- ---- agreement of two runs: the same host calls, both ended normally or both threw the same as it is listed, and equal listings
+
+  abbrev pub IsSameEnding : Ending → List Item → Ending → List Item → Type 0
+  IsSameEnding Normally queue Normally other_queue = Unit {0}
+  IsSameEnding (Thrown v) queue (Thrown w) other_queue = listed_value other_queue w ≡ listed_value queue v
+  IsSameEnding _ queue _ other_queue = ⊥
+
+  abbrev pub Agree : Script → Outcome → Script → Outcome → Type 0
+  Agree script (Ended calls ending h) other (Ended other_calls other_ending other_h) =
+      (other_calls ≡ calls) × IsSameEnding ending (queue_of (free_names script) h ending) other_ending (queue_of (free_names other) other_h other_ending) × (listing other other_h other_ending ≡ listing script h ending)
+  Agree script _ other _ = ⊥
