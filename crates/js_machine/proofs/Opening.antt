@@ -62,7 +62,7 @@ at_repeat n once h k r = refl
 
 -- where no more may be active
 module _ (z : ℕ) (none : z ≡ zero) where
-  pub no_more : (set : Setting) (calls : ℕ) (context : Context) (e : Expr) (h : Heap) (k r : Value → Heap → Tree) → (within set z calls).expr context e h k r ≡ Leave Depth e.at
+  pub no_more : (set : Setting) (calls : ℕ) (context : Context) (e : Expr) (h : Heap) (k r : Value → Heap → Tree) → (within set z calls).expr context e h k r ≡ Step e.at (Leave Depth e.at)
   unfolding within
   no_more set calls context e h k r = rw none refl
 

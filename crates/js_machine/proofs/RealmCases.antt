@@ -41,6 +41,8 @@ realm_cases = record {
   last_name = refl;
   no_name = refl;
   nested_sum_run = λ z none. simp (opening, no_more z none, no_more_builtins z none, e.outs-Binary, e.outs-Literal, s.outs-Var);
+  nested_sum_spent_run = λ z none. simp (opening, no_more z none, no_more_builtins z none, e.outs-Binary, e.outs-Literal, s.outs-Var);
+  nested_sum_left_run = λ z none. simp (opening, no_more z none, no_more_builtins z none, e.outs-Binary, e.outs-Literal, s.outs-Var);
   less_nested_sum_run = λ z none. simp (opening, no_more z none, no_more_builtins z none, e.outs-Binary, e.outs-Literal, s.outs-Var);
   getter_of_itself_run = λ z none. simp (opening, no_more z none, no_more_builtins z none, e.outs-ArrayLit, e.outs-Call, e.outs-Literal, e.outs-Member, e.outs-Name, e.outs-ObjectLit, s.outs-Eval, s.outs-Var, outs-Value);
 }

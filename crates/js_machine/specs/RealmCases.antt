@@ -11,7 +11,7 @@ use Rattle.js_tree.specs.Refusals.{place}
 use Rattle.js_tree.specs.Trees.{expr, stmt, declarator, script}
 use Rattle.plain_heap.specs.Values.{number}
 use Rattle.js_machine.specs.Machine.Numbers.{TypeError, RangeError, ReferenceError}
-use Rattle.js_machine.specs.RunCases.{Values, LeavesAt, no_world, bare, seen}
+use Rattle.js_machine.specs.RunCases.{Values, LeavesAt, StepsSpent, no_world, bare, seen}
 use Rattle.js_machine.specs.Machine.Realm.{realm}
 use Rattle.plain_heap.specs.Valid.{is_valid}
 use Rattle.js_machine.specs.Machine.Numbers.{global, object_prototype, function_prototype, array_prototype, error_prototype}
@@ -26,6 +26,14 @@ eight_more z = suc (suc (suc (suc (suc (three_more z)))))
 -- var x = 1 + (2 + 3);
 abbrev pub nested_sum : Script
 nested_sum = script (stmt 0 (s.Var (declarator 4 (codes "x") (Some (expr 8 (e.Binary binary.Add (expr 8 (e.Literal (primitive.Number (pos 1)))) (expr 13 (e.Binary binary.Add (expr 13 (e.Literal (primitive.Number (pos 2)))) (expr 17 (e.Literal (primitive.Number (pos 3))))))))) ∷ [])) ∷ []) []
+
+-- var x = 1 + (2 + 3);
+abbrev pub nested_sum_spent : Script
+nested_sum_spent = script (stmt 0 (s.Var (declarator 4 (codes "x") (Some (expr 8 (e.Binary binary.Add (expr 8 (e.Literal (primitive.Number (pos 1)))) (expr 13 (e.Binary binary.Add (expr 13 (e.Literal (primitive.Number (pos 2)))) (expr 17 (e.Literal (primitive.Number (pos 3))))))))) ∷ [])) ∷ []) []
+
+-- var x = 1 + (2 + 3);
+abbrev pub nested_sum_left : Script
+nested_sum_left = script (stmt 0 (s.Var (declarator 4 (codes "x") (Some (expr 8 (e.Binary binary.Add (expr 8 (e.Literal (primitive.Number (pos 1)))) (expr 13 (e.Binary binary.Add (expr 13 (e.Literal (primitive.Number (pos 2)))) (expr 17 (e.Literal (primitive.Number (pos 3))))))))) ∷ [])) ∷ []) []
 
 -- var x = 1 + 2;
 abbrev pub less_nested_sum : Script
@@ -49,5 +57,7 @@ pub record RealmCases : Type 0 where
   pub last_name : realm_name 40 ≡ Some (codes "Array.isArray")
   pub no_name : realm_name 41 ≡ None
   pub nested_sum_run : (z : ℕ) → z ≡ zero → seen bare [] (three_more z) no_world nested_sum 200 ≡ LeavesAt Depth 13
+  pub nested_sum_spent_run : (z : ℕ) → z ≡ zero → seen bare [] (three_more z) no_world nested_sum_spent 4 ≡ StepsSpent
+  pub nested_sum_left_run : (z : ℕ) → z ≡ zero → seen bare [] (three_more z) no_world nested_sum_left 5 ≡ LeavesAt Depth 13
   pub less_nested_sum_run : (z : ℕ) → z ≡ zero → seen bare (codes "x" ∷ []) (three_more z) no_world less_nested_sum 200 ≡ Values (Some (number 3) ∷ [])
   pub getter_of_itself_run : (z : ℕ) → z ≡ zero → seen realm [] (eight_more z) no_world getter_of_itself 200 ≡ LeavesAt Depth 64

@@ -88,12 +88,13 @@ ev_of set nodes calls = record {
   turns = set.turns;
 }
 
--- so many nodes more may be active, and so many calls of built-ins; each evaluation of a node is a step
+-- So many nodes more may be active, and so many calls of built-ins. Each evaluation of a node is a step, also one that leaves since it
+-- is too deep.
 unfoldable pub within : Setting → ℕ → ℕ → Nodes
 within set zero calls = record {
-  expr = λ context e. leave Depth e.at;
-  reference = λ context e. leave Depth e.at;
-  stmt = λ context x. leave Depth x.at;
+  expr = λ context e. step e.at (leave Depth e.at);
+  reference = λ context e. step e.at (leave Depth e.at);
+  stmt = λ context x. step x.at (leave Depth x.at);
 }
 within set (suc depth) calls = record {
   expr = λ context e. step e.at (expr_rule (ev_of set (within set depth) calls) context e.at (out-ExprForm e.form));
