@@ -1,2 +1,3 @@
 pub mod MethodCases
 pub mod Properties
+pub mod Puts

@@ -15,7 +15,7 @@ same_self key = nat_list_eq_equiv.refl key
 same_as : (k m n : Key) → is_same_text k m ≡ true → is_same_text k n ≡ is_same_text m n
 same_as k m n = nat_list_eq_equiv.congr k m n
 
-same_sym : (k m : Key) → is_same_text k m ≡ is_same_text m k
+pub same_sym : (k m : Key) → is_same_text k m ≡ is_same_text m k
 same_sym k m = nat_list_eq_equiv.symm k m
 
 same_with : (k m n : Key) → is_same_text k m ≡ true → is_same_text n k ≡ is_same_text n m

@@ -2,7 +2,7 @@
 //! (8.12, 15.4.5).
 #![tactic(auto)]
 
-ghost use Rattle.plain_heap.specs.Laws.{DeletesProperties, SetsProperties};
+ghost use Rattle.plain_heap.specs.Laws.{DeletesProperties, GetsWhatWasPut, SetsProperties};
 ghost use Rattle.plain_heap.specs.MethodCases.{MethodCases};
 
 /// Cases of the internal methods and of valid heaps, worked out by hand.
@@ -11,10 +11,12 @@ pub fn method_cases()
     ensures { MethodCases }
 {}
 
-/// Laws of properties, for every object: one that is set is there and changes no other, and one that was deleted isn't there and
-/// comes last when it is made again (8.6.1, 8.12).
-#[tactic(auto, using(crate::proofs::Properties::sets_properties, crate::proofs::Properties::deletes_properties))]
+/// Laws of properties, for every object: one that is set is there and changes no other, one that was deleted isn't there and
+/// comes last when it is made again (8.6.1, 8.12), and a value that was put is what is got, for arrays too (8.12.3, 8.12.5,
+/// 15.4.5.1).
+#[tactic(auto, using(crate::proofs::Properties::sets_properties, crate::proofs::Properties::deletes_properties, crate::proofs::Puts::gets_what_was_put))]
 pub fn property_laws()
     ensures sets { SetsProperties }
     ensures deletes { DeletesProperties }
+    ensures gets { GetsWhatWasPut }
 {}
