@@ -12,3 +12,4 @@ pub mod Realm
 pub mod Levels
 pub mod Walks
 pub mod Listed
+pub mod Laws

@@ -17,6 +17,7 @@ ghost use Rattle.js_machine.specs.ArrayRuns.{ArrayRuns};
 ghost use Rattle.js_machine.specs.ExpressionRuns.{ExpressionRuns};
 ghost use Rattle.js_machine.specs.FunctionRuns.{FunctionRuns};
 ghost use Rattle.js_machine.specs.ListingCases.{ListingCases};
+ghost use Rattle.js_machine.specs.Machine.Laws.{MoreSteps};
 ghost use Rattle.js_machine.specs.ObjectRuns.{ObjectRuns};
 ghost use Rattle.js_machine.specs.RealmCases.{RealmCases};
 ghost use Rattle.js_machine.specs.StatementRuns.{StatementRuns};
@@ -62,4 +63,10 @@ pub fn listing_cases()
 #[tactic(auto, using(crate::proofs::RealmCases::realm_cases))]
 pub fn realm_cases()
     ensures { RealmCases }
+{}
+
+/// A law of runs of scripts of the whole language: more steps don't change a run that ended or left.
+#[tactic(auto, using(crate::proofs::Steps::more_steps))]
+pub fn run_laws()
+    ensures { MoreSteps }
 {}
