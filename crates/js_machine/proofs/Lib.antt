@@ -14,3 +14,4 @@ pub mod ArrayRuns
 pub mod ListingCases
 pub mod RealmCases
 pub mod Steps
+pub mod TextCases

@@ -13,3 +13,4 @@ pub mod ObjectRuns
 pub mod ArrayRuns
 pub mod ListingCases
 pub mod RealmCases
+pub mod TextCases

@@ -13,3 +13,4 @@ pub mod Levels
 pub mod Walks
 pub mod Listed
 pub mod Laws
+pub mod RunText

@@ -21,6 +21,7 @@ ghost use Rattle.js_machine.specs.Machine.Laws.{MoreSteps};
 ghost use Rattle.js_machine.specs.ObjectRuns.{ObjectRuns};
 ghost use Rattle.js_machine.specs.RealmCases.{RealmCases};
 ghost use Rattle.js_machine.specs.StatementRuns.{StatementRuns};
+ghost use Rattle.js_machine.specs.TextCases.{TextCases};
 ghost use Rattle.js_machine.specs.WorldRuns.{WorldRuns};
 ghost use Rattle.js_machine.specs.Readable.{is_readable, placed, variables_text};
 
@@ -51,11 +52,12 @@ pub fn run_cases()
     ensures worlds { WorldRuns }
 {}
 
-/// Listings of heaps, worked out by hand: new objects, functions and cells, and what differs of the objects that are there from
-/// the start.
-#[tactic(auto, using(crate::proofs::ListingCases::listing_cases))]
+/// Listings of heaps and their texts, worked out by hand: new objects, functions and cells, and what differs of the objects that
+/// are there from the start.
+#[tactic(auto, using(crate::proofs::ListingCases::listing_cases, crate::proofs::TextCases::text_cases))]
 pub fn listing_cases()
-    ensures { ListingCases }
+    ensures rows { ListingCases }
+    ensures texts { TextCases }
 {}
 
 /// Cases of the objects that are there from the start, which are a valid heap, and of runs that end since too many nodes or calls

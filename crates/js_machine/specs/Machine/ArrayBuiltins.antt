@@ -7,9 +7,10 @@ use Rattle.js_value.specs.declared.primitive.Primitive.TheVariants as primitive
 use Rattle.plain_heap.specs.Values.{Value, Prim, Object, ObjNo, undefined, number, text, truth}
 use Rattle.plain_heap.specs.Heap.{Heap, is_array}
 use Rattle.plain_heap.specs.Methods.{length_key}
+use Rattle.js_machine.specs.Machine.Expressions.{is_callable}
 use Rattle.js_machine.specs.Machine.Functions.{argument}
 use Rattle.js_machine.specs.Machine.Numbers.{TypeError}
-use Rattle.js_machine.specs.Machine.ObjectBuiltins.{Rule, is_callable_in}
+use Rattle.js_machine.specs.Machine.ObjectBuiltins.{Rule}
 use Rattle.js_machine.specs.Machine.Objects.{Site, make_array, throw_error, get, put, delete, make_property, has_property, to_object}
 use Rattle.js_machine.specs.Machine.Operators.{test, same_value, to_string, to_list_length, to_position, plus}
 use Rattle.js_machine.specs.Machine.Trees.{Run, ◌>>=◌, give, turn, look, choose}
@@ -210,7 +211,7 @@ index_of site this arguments = do
 
 abbrev pub callback : Value → Run (Unit {0})
 callback f = do
-  callable ← look (is_callable_in f)
+  callable ← look (is_callable f)
   choose callable (give tt) (throw_error TypeError)
 
 -- the elements from a position on, of which so many are left: each that is there goes to the callback, and what that gives is used

@@ -1,13 +1,13 @@
 -- The listing of a heap: all that a script can reach, numbered by one walk, and when two runs agree.
 use Rattle.std.specs.Prelude.{◌≡◌, ℕ, zero, suc, ◌+◌, ◌&&◌, nat_eq, nat_le, nat_lt, Bool, true, false, not, if◌then◌else◌, is_some, List, [], ◌∷◌, ◌++◌, drop, take, length, map, slice_get, Option, Some, None}
 use Rattle.std.specs.List.{filter, flat_map, list_any, position, range_with_len}
-use Rattle.std.specs.Option.{option_eq, option_map}
+use Rattle.std.specs.Option.{option_map}
 use Rattle.js_value.specs.Conversions.{is_same_text, is_same_truth}
 use Rattle.js_value.specs.declared.place.FuncNo.{FuncNo}
 use Rattle.js_tree.specs.Mentions.{Names, free_names}
 use Rattle.js_tree.specs.declared.statement.Script.{Script}
 use Rattle.plain_heap.specs.Heap.{Key, Property, Properties, Data, Accessor, Class, Array, Function, ObjectState, Heap, cell, lookup, object_at, resolve}
-use Rattle.plain_heap.specs.Methods.{or_value}
+use Rattle.plain_heap.specs.Methods.{is_same_function, or_value}
 use Rattle.plain_heap.specs.Values.{Value, Object, ObjNo, CellNo, ScopeNo, undefined, object_or_null, object_or_undefined}
 use Rattle.js_machine.specs.Machine.Numbers.{global}
 use Rattle.js_machine.specs.Machine.Operators.{is_same}
@@ -142,9 +142,6 @@ listed_property queue (key, Accessor p) =
     AccessorLine key (listed_value queue (object_or_undefined p.get)) (listed_value queue (object_or_undefined p.set)) p.enumerable p.configurable
 
 -- ---- what differs of an object of the realm
-
-abbrev pub is_same_function : Option ObjNo → Option ObjNo → Bool
-is_same_function = option_eq nat_eq
 
 abbrev pub is_same_property : Property → Property → Bool
 is_same_property (Data p) (Data q) = is_same p.value q.value && is_same_truth p.writable q.writable && is_same_truth p.enumerable q.enumerable && is_same_truth p.configurable q.configurable

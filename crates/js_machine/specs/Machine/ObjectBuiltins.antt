@@ -8,6 +8,7 @@ use Rattle.js_value.specs.declared.why.Why.TheVariants.{BuiltinArgument}
 use Rattle.plain_heap.specs.Values.{Value, Prim, Object, ObjNo, undefined, text, truth, object_or_null, object_or_undefined}
 use Rattle.plain_heap.specs.Heap.{Key, Property, Properties, Data, Accessor, Plain, Heap, ObjectState, is_configurable, is_enumerable, is_function, object_at, set_object, add_object}
 use Rattle.plain_heap.specs.Methods.{Descriptor, no_fields, data_fields, length_key, or_value, is_accessor, is_data}
+use Rattle.js_machine.specs.Machine.Expressions.{is_callable}
 use Rattle.js_machine.specs.Machine.Functions.{argument}
 use Rattle.js_machine.specs.Machine.Numbers.{TypeError}
 use Rattle.js_machine.specs.Machine.Objects.{Site, make_plain, make_array, make_object, throw_error, present, get, define, make_property, get_own_property, has_property, prototype_of, is_prototype_of, to_object}
@@ -286,14 +287,10 @@ keys site this arguments = do
 unfoldable pub nothing : Rule
 nothing site this arguments = give undefined
 
-abbrev pub is_callable_in : Value → Heap → Bool
-is_callable_in (Object o) h = is_function h o
-is_callable_in v h = false
-
 -- 15.3.4.4
 unfoldable pub call : Rule
 call site this arguments = do
-  callable ← look (is_callable_in this)
+  callable ← look (is_callable this)
   choose callable (site.call this (argument arguments 0) (drop 1 arguments)) (throw_error TypeError)
 
 -- 15.3.4.3, steps 6 to 8: the items from a position on, of which so many are left; each is a turn
@@ -317,7 +314,7 @@ items site v = do
 
 unfoldable pub apply : Rule
 apply site this arguments = do
-  callable ← look (is_callable_in this)
+  callable ← look (is_callable this)
   choose callable (do
     vs ← items site (argument arguments 1)
     site.call this (argument arguments 0) vs) (throw_error TypeError)

@@ -1,0 +1,14 @@
+-- The texts compute.
+use Rattle.std.proofs.Common.{refl}
+use Rattle.std.specs.Fmt.{digits}
+use Rattle.js_value.specs.Conversions.{is_same_value, to_text}
+use Rattle.js_value.specs.Texts.{quoted_unit}
+use Rattle.plain_heap.specs.Heap.{resolve}
+use Rattle.js_machine.specs.Machine.Listed.{queue_of, listing_by}
+use Rattle.js_machine.specs.Machine.Realm.{realm, realm_names, realm_name}
+use Rattle.js_machine.specs.Machine.RunText.{run_text}
+use Rattle.js_machine.specs.TextCases.{TextCases}
+
+pub text_cases : TextCases
+unfolding digits is_same_value to_text quoted_unit resolve queue_of listing_by realm realm_names realm_name run_text
+text_cases = record { a_number = refl; a_cycle = refl; a_function = refl; realm_changes = refl; a_deletion = refl; thrown_object = refl; an_array = refl; a_capture = refl; host_calls = refl }
