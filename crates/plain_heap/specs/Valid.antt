@@ -65,9 +65,18 @@ scope_chain_ends zero h (Some s) = false
 scope_chain_ends (suc n) h (Some s) = or_value false (option_map (λ (scope : Scope). scope_chain_ends n h scope.outer) (slice_get h.scopes s))
 
 abbrev pub is_scope : Heap → Scope → Bool
-is_scope h s = scope_chain_ends (length h.scopes) h s.outer && are_distinct s.names && list_all (λ (n : List ℕ × CellNo). nat_lt n.1 (length h.cells)) s.names
+is_scope h s = scope_chain_ends (length h.scopes) h s.outer && list_all (λ (n : List ℕ × CellNo). nat_lt n.1 (length h.cells)) s.names
+
+-- ---- cells: no variable holds a built-in that is left out
+
+abbrev pub is_absent : Value → Bool
+is_absent Absent = true
+is_absent v = false
+
+abbrev pub is_cell : Heap → Value → Bool
+is_cell h v = is_value h v && not (is_absent v)
 
 -- ---- heaps
 
 unfoldable pub is_valid : Heap → Bool
-is_valid h = list_all (is_object h) h.objects && list_all (is_value h) h.cells && list_all (is_scope h) h.scopes
+is_valid h = list_all (is_object h) h.objects && list_all (is_cell h) h.cells && list_all (is_scope h) h.scopes

@@ -177,7 +177,7 @@ abbrev pub is_callable : Value → Heap → Bool
 is_callable (Object o) h = is_function h o
 is_callable v h = false
 
--- 11.2.3, steps 4 and 5, and 11.2.2, step 4
+-- 11.2.3, steps 4 and 5
 abbrev pub call_checked : Ev → Place → Value → Value → List Value → Run Value
 call_checked ev at f this arguments = do
   callable ← look (is_callable f)
