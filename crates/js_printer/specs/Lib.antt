@@ -1,0 +1,5 @@
+pub mod Expressions
+pub mod Pieces
+pub mod Printing
+pub mod Statements
+pub mod Writes
