@@ -1,10 +1,10 @@
 -- The text of a script.
-use Rattle.std.specs.Prelude.{ℕ, zero, suc, Bool, List, [], ◌++◌, length, slice_get, Option, Some, None}
+use Rattle.std.specs.Prelude.{ℕ, zero, suc, Bool, List, [], length, slice_get, Option, Some, None}
 use Rattle.js_value.specs.declared.place.FuncNo.{FuncNo}
 use Rattle.js_tree.specs.declared.statement.Func.{Func}
 use Rattle.js_tree.specs.declared.statement.Script.{Script}
 use Rattle.js_printer.specs.Pieces.{Piece, text_of}
-use Rattle.js_printer.specs.Statements.{func, lines, shown, directive}
+use Rattle.js_printer.specs.Statements.{func, code}
 
 abbrev pub found : (Func → List Piece) → Option Func → List Piece
 found show None = []
@@ -17,7 +17,7 @@ function_to (suc depth) funcs named f = found (func (function_to depth funcs) na
 
 -- A function stands inside one of a lower number, so that their count is deep enough.
 abbrev pub script_pieces : Script → List Piece
-script_pieces s = directive s.directive ++ lines (shown (function_to (length s.funcs) s.funcs)) s.body
+script_pieces s = code (function_to (length s.funcs) s.funcs) s.directive s.body
 
 unfoldable pub script_text : Script → List ℕ
 script_text s = text_of (script_pieces s)

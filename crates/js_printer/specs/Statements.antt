@@ -1,5 +1,5 @@
 -- The tokens of statements as they are printed (12), with the ends of lines.
-use Rattle.std.specs.Prelude.{ℕ, ◌+◌, ◌&&◌, Bool, true, false, not, List, [], ◌∷◌, ◌++◌, codes, Option, Some, None}
+use Rattle.std.specs.Prelude.{ℕ, ◌&&◌, ◌==◌, Bool, true, false, not, List, [], ◌∷◌, ◌++◌, length, codes, Option, Some, None}
 use Rattle.std.specs.List.{flat_map}
 use Rattle.js_value.specs.declared.place.FuncNo.{FuncNo}
 use Rattle.js_tree.specs.declared.expression.Expr.{Expr}
@@ -16,8 +16,8 @@ use Rattle.js_tree.specs.declared.statement.Finally.{Finally, fold-Finally}
 use Rattle.js_tree.specs.declared.statement.Stmt.{Stmt, fold-Stmt}
 use Rattle.js_tree.specs.declared.statement.StmtForm.{StmtForm, fold-StmtForm}
 use Rattle.js_tree.specs.declared.statement.StmtForm.TheOpen.{StmtForm-F, Case-F, Catch-F, Finally-F}
-use Rattle.js_printer.specs.Pieces.{Piece, LineEnd, Open, Close, word, closing, opening, inner, separated}
-use Rattle.js_printer.specs.Expressions.{Printed, expr, maybe_expr, printed, if_grouped, name, called, utf8}
+use Rattle.js_printer.specs.Pieces.{Piece, LineEnd, Open, Close, word, closing, opening, separated}
+use Rattle.js_printer.specs.Expressions.{expr, maybe_expr, printed, if_grouped, name, called, utf8}
 
 -- a statement without the end of its last line
 pub record Shown : Type 0 where
@@ -52,8 +52,7 @@ in_braces is_empty inside =
     elim is_empty [ true ↦ opening (codes "{") ++ closing (codes "}") | false ↦ begin_braces ++ inside ++ end_braces ]
 
 abbrev pub is_empty : {A : Type 0} → List A → Bool
-is_empty [] = true
-is_empty (x ∷ xs) = false
+is_empty xs = length xs == 0
 
 abbrev pub lines : {A : Type 0} → (A → Shown) → List A → List Piece
 lines show all = flat_map (λ s. line (show s)) all
@@ -68,13 +67,13 @@ directive false = []
 
 -- ---- lines inside a statement
 
--- `else` behind a first part that is no block begins a line (12.5)
-abbrev pub before_else : Bool → List Piece
-before_else is_block = elim is_block [ true ↦ [] | false ↦ LineEnd ∷ [] ]
+-- the line ends here, unless this holds
+abbrev pub line_end_unless : Bool → List Piece
+line_end_unless holds = elim holds [ true ↦ [] | false ↦ LineEnd ∷ [] ]
 
--- a line ends behind the `;` of a body, and not behind its `}`, where the `while` of `do` follows (12.6.1)
-abbrev pub before_while : Bool → List Piece
-before_while ends_in_brace = elim ends_in_brace [ true ↦ [] | false ↦ LineEnd ∷ [] ]
+-- `else` begins a line behind a first part that is no block (12.5)
+unfoldable pub else_word : Bool → List Piece
+else_word is_block = line_end_unless is_block ++ word (codes "else")
 
 abbrev pub none_or : {A : Type 0} → Option (List A) → List A
 none_or None = []
@@ -85,9 +84,34 @@ abbrev pub in_switch : Bool → List Piece → List Piece
 in_switch is_empty clauses =
     elim is_empty [ true ↦ word (codes "{") ++ word (codes "}") | false ↦ begin_braces ++ clauses ++ end_braces ]
 
+abbrev pub clauses : {A : Type 0} → (A → List Piece) → List A → List Piece
+clauses show all = in_switch (is_empty all) (flat_map show all)
+
+abbrev pub clause_start : List Piece → List Piece
+clause_start label = label ++ closing (codes ":") ++ Open ∷ LineEnd ∷ []
+
 -- and statements in their clause
-unfoldable pub clause : List Piece → List Piece → List Piece
-clause label statements = label ++ closing (codes ":") ++ Open ∷ LineEnd ∷ [] ++ statements ++ Close ∷ []
+abbrev pub clause : List Piece → List Piece → List Piece
+clause label statements = clause_start label ++ statements ++ Close ∷ []
+
+abbrev pub for_word : List Piece
+for_word = word (codes "for") ++ opening (codes "(")
+
+-- 12.14
+unfoldable pub catch_head : List ℕ → List Piece
+catch_head text = word (codes "catch") ++ opening (codes "(") ++ name text ++ closing (codes ")")
+
+abbrev pub parameter : Name → List Piece
+parameter p = name p.text
+
+-- 13
+abbrev pub parameters : List Name → List Piece
+parameters ps = opening (codes "(") ++ separated parameter ps ++ closing (codes ")")
+
+-- the name is left out where it isn't wanted
+abbrev pub own_name : Bool → Option Name → List Piece
+own_name named None = []
+own_name named (Some n) = elim named [ true ↦ called (utf8 n.text) | false ↦ [] ]
 
 -- ---- the forms (12)
 
@@ -122,18 +146,21 @@ module _ (function : Bool → FuncNo → List Piece) where
   for_target (target.Expr e) = expr function 16 false e
   for_target (target.Var at text) = word (codes "var") ++ name text
 
-  abbrev pub for_word : List Piece
-  for_word = word (codes "for") ++ opening (codes "(")
+  unfoldable pub for_rest : Option Expr → Option Expr → List Piece
+  for_rest test step = closing (codes ";") ++ maybe_expr function test ++ closing (codes ";") ++ maybe_expr function step ++ closing (codes ")")
 
   unfoldable pub for_head : ForStart → Option Expr → Option Expr → List Piece
-  for_head from test step =
-      for_word ++ for_start from ++ closing (codes ";") ++ maybe_expr function test ++ closing (codes ";") ++ maybe_expr function step ++ closing (codes ")")
+  for_head from test step = for_word ++ for_start from ++ for_rest test step
+
+  unfoldable pub in_rest : Expr → List Piece
+  in_rest object = word (codes "in") ++ expr function 1 true object ++ closing (codes ")")
 
   unfoldable pub for_in_head : ForTarget → Expr → List Piece
-  for_in_head to object = for_word ++ for_target to ++ word (codes "in") ++ expr function 1 true object ++ closing (codes ")")
+  for_in_head to object = for_word ++ for_target to ++ in_rest object
 
-  abbrev pub else_part : Shown → Shown → List Piece
-  else_part a b = before_else a.is_block ++ word (codes "else") ++ b.pieces
+  -- 12.6.1: the line ends behind the `;` of the body of a `do`, and not behind its `}`
+  unfoldable pub end_of_do : Bool → Expr → List Piece
+  end_of_do ends_in_brace test = line_end_unless ends_in_brace ++ head (codes "while") test
 
   abbrev pub of_form : StmtForm-F Shown (List Piece) (List Piece) (List Piece) Shown → Shown
   of_form (StmtForm-F.Var ds) = with_semicolon (declarators true ds)
@@ -143,12 +170,12 @@ module _ (function : Bool → FuncNo → List Piece) where
   of_form StmtForm-F.Empty = with_semicolon []
   of_form (StmtForm-F.If test a None) = ending (head (codes "if") test) a
   of_form (StmtForm-F.If test a (Some b)) = record {
-    pieces = head (codes "if") test ++ a.pieces ++ else_part a b;
+    pieces = head (codes "if") test ++ a.pieces ++ else_word a.is_block ++ b.pieces;
     is_block = false;
     ends_in_brace = b.ends_in_brace;
   }
   of_form (StmtForm-F.DoWhile body test) =
-      with_semicolon (word (codes "do") ++ body.pieces ++ before_while body.ends_in_brace ++ head (codes "while") test)
+      with_semicolon (word (codes "do") ++ body.pieces ++ end_of_do body.ends_in_brace test)
   of_form (StmtForm-F.While test body) = ending (head (codes "while") test) body
   of_form (StmtForm-F.For from test step body) = ending (for_head from test step) body
   of_form (StmtForm-F.ForIn to object body) = ending (for_in_head to object) body
@@ -156,7 +183,7 @@ module _ (function : Bool → FuncNo → List Piece) where
   of_form StmtForm-F.Break = with_semicolon (word (codes "break"))
   of_form (StmtForm-F.Return e) = with_semicolon (word (codes "return") ++ maybe_expr function e)
   of_form (StmtForm-F.Switch e cases) =
-      with_brace (head (codes "switch") e ++ in_switch (is_empty cases) (flat_map (λ c. c) cases))
+      with_brace (head (codes "switch") e ++ clauses (λ c. c) cases)
   of_form (StmtForm-F.Throw e) = with_semicolon (word (codes "throw") ++ expr function 1 true e)
   of_form (StmtForm-F.Try body handler final) =
       with_brace (word (codes "try") ++ block (λ s. s) body ++ none_or handler ++ none_or final)
@@ -170,9 +197,6 @@ module _ (function : Bool → FuncNo → List Piece) where
   of_case c = clause (label c.test) (lines (λ s. s) c.body)
 
   -- 12.14
-  unfoldable pub catch_head : List ℕ → List Piece
-  catch_head text = word (codes "catch") ++ opening (codes "(") ++ name text ++ closing (codes ")")
-
   abbrev pub of_catch : Catch-F Shown (List Piece) (List Piece) (List Piece) Shown → List Piece
   of_catch c = catch_head c.name ++ block (λ s. s) c.body
 
@@ -196,16 +220,12 @@ module _ (function : Bool → FuncNo → List Piece) where
 
   -- ---- functions (13)
 
-  abbrev pub parameters : List Name → List Piece
-  parameters ps = opening (codes "(") ++ separated (λ (p : Name). name p.text) ps ++ closing (codes ")")
+  -- the statements of code, behind its directive
+  abbrev pub code : Bool → List Stmt → List Piece
+  code is_directive body = directive is_directive ++ lines shown body
 
   abbrev pub body : Func → List Piece
-  body f = in_braces (is_empty f.body && not f.directive) (directive f.directive ++ lines shown f.body)
-
-  -- the name is left out where it isn't wanted
-  abbrev pub own_name : Bool → Option Name → List Piece
-  own_name named None = []
-  own_name named (Some n) = elim named [ true ↦ called (utf8 n.text) | false ↦ [] ]
+  body f = in_braces (is_empty f.body && not f.directive) (code f.directive f.body)
 
   -- a function behind the word that begins it
   abbrev pub func : Bool → Func → List Piece

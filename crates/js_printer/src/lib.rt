@@ -2,6 +2,10 @@
 #![tactic(auto)]
 
 mod expressions;
+mod functions;
 mod leftmost;
 mod page;
+mod statements;
 mod words;
+
+pub use functions::print;

@@ -1,9 +1,9 @@
-use Rattle.std.proofs.Common.{◌≡◌, refl, ap, sym, ◌∙◌}
+use Rattle.std.proofs.Common.{◌≡◌, ◌-◌, take, drop, length, refl, ap, sym, ◌∙◌}
 use Rattle.std.specs.Prelude.{codes}
 use Rattle.js_printer.specs.Pieces.{Piece, put_all, closing, behind_commas, separated}
 use Rattle.js_printer.specs.Expressions.{argument, printed_field, element, printed, last_comma, ends_in_elision}
 use Rattle.std.specs.Option.{option_map}
-use Rattle.std.specs.Prelude.{List, Option, Some, None}
+use Rattle.std.specs.Prelude.{List, Option}
 use Rattle.js_tree.specs.declared.expression.Expr.{Expr}
 use Rattle.js_printer.proofs.expressions.Printer.+expression.Goals.{elements-in_default, elements-in-len1-up+else-loop-e-test, elements-in-Some+in_ok-expr, elements-in_default-first, elements-in-Some-e+in_ok-expr-2, elements-in_default-e}
 use Rattle.js_printer.specs.Printing.{function_to}
@@ -157,7 +157,8 @@ elements-returns g t c =
             | elements-in-Some+in_ok-expr u ↦ u.page-is ∙ u.in_ok-expr.ensures ∙ ap (λ q. put_all (el q) c.args.page.now) (sym u.in-Some.is)
             | elements-in_default-first u ↦ u.page-is ∙ ap (λ q. put_all (el q) c.args.page.now) (sym u.in_default-first.is)
           ] in
-          w.page-is ∙ w.loop-e.invariant ∙ ap (put_all (behind_commas el _)) one
+          let more = take w.loop-e.e-index (take (length c.args.all.now - 1) (drop 1 c.args.all.now)) in
+          w.page-is ∙ w.loop-e.invariant ∙ ap (put_all (behind_commas el more)) one
           ∙ separated-whole el c.args.all.now w.loop-e.e-index w.first-item.result w.in-len1-up.len_at_least w.loop-e-test.false w.first-item.is c.args.page.now
     ] in
     let comma = last_comma (ends_in_elision c.args.all.now) in

@@ -1,0 +1,8 @@
+use Rattle.std.proofs.Common.{◌≡◌, take}
+use Rattle.js_printer.specs.Pieces.{put_all, behind_commas}
+use Rattle.js_printer.specs.Printing.{function_to}
+use Rattle.js_printer.specs.Statements.{declarator}
+use Rattle.js_printer.proofs.expressions.Printer.declarator_list.Given as goal
+
+abbrev pub invariant-loop-d : goal.invariant-loop-d
+invariant-loop-d g l = l.page ≡ put_all (behind_commas (declarator (function_to l.self.depth l.self.funcs.now) l.allows_in) (take l.d-index l.more)) l.initial.page
