@@ -27,7 +27,10 @@ pub struct Printer<'a, F> {
     pub function: F,
 }
 
-impl<F: Fn(Global, &[Func], &mut Page, usize, FuncNo, bool) -> Result<(), NoMemory>> Printer<'_, F> {
+impl<F: Fn(Global, &[Func], &mut Page, usize, FuncNo, bool) -> Result<(), NoMemory>> Printer<
+    '_,
+    F,
+> {
     /// A function behind the word that begins it, with or without its name.
     pub fn function(&self, page: &mut Page, f: FuncNo, named: bool) -> Result<(), NoMemory>
         requires { Writes self.now.funcs.now self.now.depth (F.pre self.now.function) (F.post self.now.function) }
@@ -312,13 +315,7 @@ impl<F: Fn(Global, &[Func], &mut Page, usize, FuncNo, bool) -> Result<(), NoMemo
     /// `++` and `--` (11.3, 11.4.4, 11.4.5).
     #[cycle(expression)]
     #[tactic(auto, using(crate::proofs::Putting::appended))]
-    fn step(
-        &self,
-        page: &mut Page,
-        a: &Expr,
-        op: StepOp,
-        allows_in: bool,
-    ) -> Result<(), NoMemory>
+    fn step(&self, page: &mut Page, a: &Expr, op: StepOp, allows_in: bool) -> Result<(), NoMemory>
         requires { Writes self.now.funcs.now self.now.depth (F.pre self.now.function) (F.post self.now.function) }
         ensures { OnOk result (page.new ≡ put_all (spec.stepped op allows_in (spec.printed (function_to self.now.depth self.now.funcs.now) a.now)) page.old) }
     {

@@ -6,6 +6,8 @@ mod functions;
 mod leftmost;
 mod page;
 mod statements;
+#[cfg(test)]
+mod tests;
 mod words;
 
 pub use functions::print;

@@ -94,7 +94,11 @@ fn use_strict(page: &mut Page) -> Result<(), NoMemory>
 fn directive(page: &mut Page, is_directive: bool) -> Result<(), NoMemory>
     ensures { OnOk result (page.new ≡ put_all (spec.directive is_directive) page.old) }
 {
-    if is_directive { use_strict(page) } else { Ok(()) }
+    if is_directive {
+        use_strict(page)
+    } else {
+        Ok(())
+    }
 }
 
 /// Ends the line, unless this holds.
@@ -157,12 +161,7 @@ fn names(alloc: Global, page: &mut Page, all: &[Name]) -> Result<(), NoMemory>
 }
 
 /// The own name of a function, where it is wanted.
-fn own_name(
-    alloc: Global,
-    page: &mut Page,
-    own: &Option<Name>,
-    named: bool,
-) -> Result<(), NoMemory>
+fn own_name(alloc: Global, page: &mut Page, own: &Option<Name>, named: bool) -> Result<(), NoMemory>
     ensures { OnOk result (page.new ≡ put_all (spec.own_name named own.now) page.old) }
 {
     match own {
@@ -171,7 +170,10 @@ fn own_name(
     }
 }
 
-impl<F: Fn(Global, &[Func], &mut Page, usize, FuncNo, bool) -> Result<(), NoMemory>> Printer<'_, F> {
+impl<F: Fn(Global, &[Func], &mut Page, usize, FuncNo, bool) -> Result<(), NoMemory>> Printer<
+    '_,
+    F,
+> {
     fn maybe_expr(&self, page: &mut Page, e: &Option<Expr>) -> Result<(), NoMemory>
         requires { Writes self.now.funcs.now self.now.depth (F.pre self.now.function) (F.post self.now.function) }
         ensures { OnOk result (page.new ≡ put_all (maybe_expr (function_to self.now.depth self.now.funcs.now) e.now) page.old) }
@@ -211,12 +213,7 @@ impl<F: Fn(Global, &[Func], &mut Page, usize, FuncNo, bool) -> Result<(), NoMemo
     }
 
     #[tactic(auto, using(crate::proofs::Putting::appended))]
-    fn declarator(
-        &self,
-        page: &mut Page,
-        d: &Declarator,
-        allows_in: bool,
-    ) -> Result<(), NoMemory>
+    fn declarator(&self, page: &mut Page, d: &Declarator, allows_in: bool) -> Result<(), NoMemory>
         requires { Writes self.now.funcs.now self.now.depth (F.pre self.now.function) (F.post self.now.function) }
         ensures { OnOk result (page.new ≡ put_all (spec.declarator (function_to self.now.depth self.now.funcs.now) allows_in d.now) page.old) }
     {
@@ -612,7 +609,10 @@ impl<F: Fn(Global, &[Func], &mut Page, usize, FuncNo, bool) -> Result<(), NoMemo
     }
 }
 
-impl<F: Fn(Global, &[Func], &mut Page, usize, FuncNo, bool) -> Result<(), NoMemory>> Printer<'_, F> {
+impl<F: Fn(Global, &[Func], &mut Page, usize, FuncNo, bool) -> Result<(), NoMemory>> Printer<
+    '_,
+    F,
+> {
     /// The statements of code, behind its directive.
     #[tactic(auto, using(crate::proofs::Putting::appended))]
     pub fn code(&self, page: &mut Page, is_directive: bool, body: &[Stmt]) -> Result<(), NoMemory>

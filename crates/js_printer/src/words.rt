@@ -128,12 +128,7 @@ pub fn accessor_key(alloc: Global, page: &mut Page, key: &Text) -> Result<(), No
 
 /// The two literals of an input or of a host call.
 #[tactic(auto, unfolding(crate::specs::Expressions::two_literals))]
-pub fn two_literals(
-    alloc: Global,
-    page: &mut Page,
-    kind: Kind,
-    text: &Text,
-) -> Result<(), NoMemory>
+pub fn two_literals(alloc: Global, page: &mut Page, kind: Kind, text: &Text) -> Result<(), NoMemory>
     ensures { OnOk result (page.new ≡ put_all (spec.two_literals kind text.now) page.old) }
 {
     page.word(kind_text(kind))?;
