@@ -1,3 +1,4 @@
 pub mod Forms
+pub mod PrintCases
 pub mod Putting
 pub mod StatementForms
