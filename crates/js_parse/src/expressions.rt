@@ -77,11 +77,7 @@ impl<'a> Reader<'a> {
     /// Expressions behind commas.
     #[cycle(reading)]
     #[tactic(auto, using(js_grammar::proofs::Unrolled::commas_unroll), unfolding(js_grammar::specs::Rest::next))]
-    pub fn more_commas(
-        &mut self,
-        allows_in: bool,
-        mut left: Expr,
-    ) -> Result<Expr, ReadRefused>
+    pub fn more_commas(&mut self, allows_in: bool, mut left: Expr) -> Result<Expr, ReadRefused>
         ensures answer { IsAnswer (repeat (primary.more_commas grammar allows_in) left) (rest_of self.old) (rest_of self.new) result }
         ensures within { length self.new.rest.now ≤ length self.old.rest.now }
     {

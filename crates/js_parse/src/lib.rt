@@ -12,10 +12,10 @@ mod heights;
 mod operators;
 mod primary;
 mod reader;
-mod stack;
-mod statements;
 #[cfg(test)]
 mod size_tests;
+mod stack;
+mod statements;
 #[cfg(test)]
 mod tests;
 mod tokens;

@@ -13,8 +13,8 @@ use crate::functions::Params;
 use crate::reader::Reader;
 use crate::words::{barred, is_abstract, is_residual, is_spelled};
 use js_tree::{
-    Elements, Expr, ExprForm, Exprs, Feature, Field, Keyword, Punctuator, ReadRefused,
-    Token, TokenForm,
+    Elements, Expr, ExprForm, Exprs, Feature, Field, Keyword, Punctuator, ReadRefused, Token,
+    TokenForm,
 };
 use js_value::{Kind, Place, Seq, Text};
 

@@ -60,7 +60,15 @@ static DEEP: [Repeated; 37] = [
     (b"", b"try{", 1023, b"", b"}finally{}", 1024, ""),
     (b"", b"switch(a){case a:", 1022, b"a", b"}", 1024, ""),
     (b"x=", b"function(){return ", 510, b"a", b"}", 1024, ""),
-    (b"x=", b"function(){return ", 511, b"a", b"}", 1024, "nested at 0"),
+    (
+        b"x=",
+        b"function(){return ",
+        511,
+        b"a",
+        b"}",
+        1024,
+        "nested at 0",
+    ),
 ];
 
 /// Long lists, and nesting that isn't counted as open, of up to 1,048,576 bytes.
@@ -93,7 +101,15 @@ static LONG: [Repeated; 21] = [
     (b"x=", b"{a:", 262_143, b"a", b"}", 200, "nested at 785831"),
     (b"x=", b"{a:", 349_524, b"", b"", 200, "syntax at 1048574"),
     (b"x=", b"{a:a+", 209_714, b"", b"", 200, "syntax at 1048572"),
-    (b"x=", b"{a:new ", 149_796, b"", b"", 200, "syntax at 1048574"),
+    (
+        b"x=",
+        b"{a:new ",
+        149_796,
+        b"",
+        b"",
+        200,
+        "syntax at 1048574",
+    ),
     (b"", b"(", 1_048_576, b"", b"", 1024, "nested at 1024"),
     (b"", b"a=", 524_288, b"", b"", 1024, "nested at 2048"),
 ];
@@ -124,7 +140,11 @@ fn all_read(rt: &impl Abort, alloc: Global, cases: &[Repeated]) -> Result<(), Fa
         assert!(rt; text.len() <= 2_097_152);
         let (front, opening, times, _, _, limit, wanted) = case;
         let got = refusal(alloc, answer(alloc, text.as_slice(), *limit))?;
-        assert_eq!(rt; got.as_str(), *wanted, "of {front:?} and {times} times {opening:?}");
+        assert_eq!(rt;
+            got.as_str(),
+            *wanted,
+            "of {front:?} and {times} times {opening:?}"
+        );
     }
     Ok(())
 }

@@ -76,12 +76,7 @@ impl<'a> Reader<'a> {
 
     /// The key of a property, whose value comes next.
     #[tactic(auto, using(crate::proofs::Steps::key_begins))]
-    fn key(
-        &mut self,
-        frames: &mut Frames,
-        at: Place,
-        so_far: Fields,
-    ) -> Result<Stage, ReadRefused>
+    fn key(&mut self, frames: &mut Frames, at: Place, so_far: Fields) -> Result<Stage, ReadRefused>
         ensures answer { IsStage (keyed_on at so_far frames.old) (rest_of self.old) frames.new (rest_of self.new) result }
         ensures less { IfOk result (λ st. 3 * length self.new.rest.now + 2 * length frames.new + rank st < 3 * length self.old.rest.now + 2 * length frames.old) }
         ensures within { length self.new.rest.now ≤ length self.old.rest.now }

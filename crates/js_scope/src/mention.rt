@@ -45,11 +45,7 @@ fn unbound_one<'a>(names: &Names, mention: Mention<'a>) -> Option<Mention<'a>>
 {
     match mention {
         Mention::Reads(_, name) | Mention::Assigns(_, name) => {
-            if names.has(name) {
-                None
-            } else {
-                Some(mention)
-            }
+            if names.has(name) { None } else { Some(mention) }
         }
         Mention::AssignsOwn(_) | Mention::Takes(_, _, _) | Mention::Repeats(_) => Some(mention),
     }
