@@ -1,3 +1,5 @@
 pub mod MethodCases
 pub mod Properties
 pub mod Puts
+pub mod Grown
+pub mod Making

@@ -1,10 +1,11 @@
--- What holds of properties, for every object.
-use Rattle.std.specs.Prelude.{◌≡◌, [], ◌∷◌, ◌++◌, true, false, Some, None}
+-- What holds of properties for every object, and of every heap that is valid.
+use Rattle.std.specs.Prelude.{◌≡◌, ◌≤◌, ℕ, nat_lt, length, List, [], ◌∷◌, ◌++◌, true, false, Option, Some, None}
+use Rattle.std.specs.List.{list_all}
 use Rattle.js_value.specs.Conversions.{is_same_text}
-use Rattle.plain_heap.specs.Heap.{Key, Property, ObjectState, Heap, object_at, set_object}
+use Rattle.plain_heap.specs.Heap.{Key, Property, Class, ObjectState, Heap, object_at, set_object, new_cell, set_cell, new_scope, new_state, new_object}
 use Rattle.plain_heap.specs.Methods.{Descriptor, own_property, with_property, delete, put, Define, define, Defined, get, GotValue}
-use Rattle.plain_heap.specs.Values.{Value, ObjNo}
-use Rattle.plain_heap.specs.Valid.{are_distinct}
+use Rattle.plain_heap.specs.Values.{Value, ObjNo, CellNo, ScopeNo}
+use Rattle.plain_heap.specs.Valid.{are_distinct, if_some, is_cell, is_class, is_object, is_valid}
 
 -- a property that is set is there, the others are what they were, and each key stays distinct
 pub record SetsProperties : Type 0 where
@@ -22,3 +23,26 @@ pub record DeletesProperties : Type 0 where
 pub record GetsWhatWasPut : Type 0 where
   pub gets : (h : Heap) (o : ObjNo) (key : Key) (v : Value) (d : Descriptor) (state after : ObjectState) → object_at h o ≡ Some state → put h o key v ≡ Define d
       → define key d state ≡ Defined after → get (set_object o after h) o key ≡ GotValue v
+
+-- ---- valid heaps
+
+-- a valid heap, in which every number is still one
+pub record IsKept (h after : Heap) : Type 0 where
+  pub valid : is_valid after ≡ true
+  pub objects : length h.objects ≤ length after.objects
+  pub cells : length h.cells ≤ length after.cells
+  pub scopes : length h.scopes ≤ length after.scopes
+
+abbrev pub add_objects : List ObjectState → Heap → Heap
+add_objects states h = record h { objects = h.objects ++ states }
+
+-- new cells, scopes and objects, and a cell that is set
+pub record MakesValid : Type 0 where
+  pub cell : (h : Heap) (v : Value) → is_valid h ≡ true → is_cell h v ≡ true → IsKept h (new_cell v h)
+  pub set : (h : Heap) (c : CellNo) (v : Value) → is_valid h ≡ true → is_cell h v ≡ true → IsKept h (set_cell c v h)
+  pub scope : (h : Heap) (outer : Option ScopeNo) (names : List (List ℕ × CellNo)) → is_valid h ≡ true → if_some (λ s. nat_lt s (length h.scopes)) outer ≡ true
+      → list_all (λ (n : List ℕ × CellNo). nat_lt n.1 (length h.cells)) names ≡ true → IsKept h (new_scope outer names h)
+  pub object : (h : Heap) (class : Class) (prototype : Option ObjNo) → is_valid h ≡ true → if_some (λ o. nat_lt o (length h.objects)) prototype ≡ true
+      → is_class h (new_state class prototype) class ≡ true → IsKept h (new_object class prototype h)
+  -- objects that may refer to one another, as a function and its prototype
+  pub objects : (h : Heap) (states : List ObjectState) → is_valid h ≡ true → list_all (is_object (add_objects states h)) states ≡ true → IsKept h (add_objects states h)

@@ -2,7 +2,7 @@
 //! (8.12, 15.4.5).
 #![tactic(auto)]
 
-ghost use Rattle.plain_heap.specs.Laws.{DeletesProperties, GetsWhatWasPut, SetsProperties};
+ghost use Rattle.plain_heap.specs.Laws.{DeletesProperties, GetsWhatWasPut, MakesValid, SetsProperties};
 ghost use Rattle.plain_heap.specs.MethodCases.{MethodCases};
 
 /// Cases of the internal methods and of valid heaps, worked out by hand.
@@ -19,4 +19,10 @@ pub fn property_laws()
     ensures sets { SetsProperties }
     ensures deletes { DeletesProperties }
     ensures gets { GetsWhatWasPut }
+{}
+
+/// Laws of valid heaps, for every heap: what an operation leaves is valid again, and each number is still one.
+#[tactic(auto, using(crate::proofs::Making::makes_valid))]
+pub fn valid_laws()
+    ensures makes { MakesValid }
 {}
