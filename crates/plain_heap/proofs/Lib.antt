@@ -3,3 +3,4 @@ pub mod Properties
 pub mod Puts
 pub mod Grown
 pub mod Making
+pub mod Changing

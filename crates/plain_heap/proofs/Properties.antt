@@ -12,7 +12,7 @@ use Rattle.plain_heap.specs.Valid.{are_distinct}
 same_self : (key : Key) → is_same_text key key ≡ true
 same_self key = nat_list_eq_equiv.refl key
 
-same_as : (k m n : Key) → is_same_text k m ≡ true → is_same_text k n ≡ is_same_text m n
+pub same_as : (k m n : Key) → is_same_text k m ≡ true → is_same_text k n ≡ is_same_text m n
 same_as k m n = nat_list_eq_equiv.congr k m n
 
 pub same_sym : (k m : Key) → is_same_text k m ≡ is_same_text m k

@@ -46,3 +46,11 @@ pub record MakesValid : Type 0 where
       → is_class h (new_state class prototype) class ≡ true → IsKept h (new_object class prototype h)
   -- objects that may refer to one another, as a function and its prototype
   pub objects : (h : Heap) (states : List ObjectState) → is_valid h ≡ true → list_all (is_object (add_objects states h)) states ≡ true → IsKept h (add_objects states h)
+
+-- an object that is changed
+pub record ChangesValid : Type 0 where
+  pub object : (h : Heap) (o : ObjNo) (state after : ObjectState) → is_valid h ≡ true → object_at h o ≡ Some state → after.class ≡ state.class → after.prototype ≡ state.prototype
+      → is_object h after ≡ true → IsKept h (set_object o after h)
+  pub closes : (h : Heap) (o : ObjNo) (state : ObjectState) → is_valid h ≡ true → object_at h o ≡ Some state → IsKept h (set_object o (record state { extensible = false }) h)
+  pub deletes : (h : Heap) (o : ObjNo) (key : Key) (state after : ObjectState) → is_valid h ≡ true → object_at h o ≡ Some state → delete key state ≡ Some after
+      → IsKept h (set_object o after h)
