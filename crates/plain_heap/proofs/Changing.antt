@@ -200,7 +200,7 @@ like_without h key o is =
       properties = all_without (λ (p : Key × Property). is_property h p.1) key o.properties was.properties;
     }
 
-only_some : {B : Type 0} (b : Bool) (x y : B) → (if b then Some x else None) ≡ Some y → (b ≡ true) × (x ≡ y)
+pub only_some : {B : Type 0} (b : Bool) (x y : B) → (if b then Some x else None) ≡ Some y → (b ≡ true) × (x ≡ y)
 only_some true x y is = (refl, some_is x y is)
 only_some false x y is = grind (arith, is)
 

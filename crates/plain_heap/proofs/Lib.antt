@@ -4,3 +4,5 @@ pub mod Puts
 pub mod Grown
 pub mod Making
 pub mod Changing
+pub mod Defining
+pub mod Lengths

@@ -204,11 +204,11 @@ define_gives key v w e c o after is = by_class (is_array_class o.class) is
 -- ---- 8.12.5 and then 8.12.3
 
 -- what is to be defined for a put
-record IsForPut (v : Value) (d : Descriptor) : Type 0 where
-  w : Option Bool
-  e : Option Bool
-  c : Option Bool
-  is : d ≡ with_value v w e c
+pub record IsForPut (v : Value) (d : Descriptor) : Type 0 where
+  pub w : Option Bool
+  pub e : Option Bool
+  pub c : Option Bool
+  pub is : d ≡ with_value v w e c
 
 abbrev the_change : Putting → Descriptor → Descriptor
 the_change (Define d) other = d
@@ -228,7 +228,7 @@ when_own h o key v d (Some (Data p)) is = record { w = None; e = None; c = None;
 when_own h o key v d (Some (Accessor p)) is = when_found v d (get_property h key (Some o)) is
 when_own h o key v d None is = when_found v d (get_property h key (Some o)) is
 
-for_put : (h : Heap) (o : ObjNo) (key : Key) (v : Value) (d : Descriptor) → put h o key v ≡ Define d → IsForPut v d
+pub for_put : (h : Heap) (o : ObjNo) (key : Key) (v : Value) (d : Descriptor) → put h o key v ≡ Define d → IsForPut v d
 unfolding put
 for_put h o key v d is = by_can_put (can_put h o key) is
   where

@@ -1,11 +1,11 @@
 -- What holds of properties for every object, and of every heap that is valid.
-use Rattle.std.specs.Prelude.{◌≡◌, ◌≤◌, ℕ, nat_lt, length, List, [], ◌∷◌, ◌++◌, true, false, Option, Some, None}
+use Rattle.std.specs.Prelude.{◌≡◌, ◌≤◌, ◌&&◌, ℕ, nat_lt, length, Bool, List, [], ◌∷◌, ◌++◌, true, false, Option, Some, None}
 use Rattle.std.specs.List.{list_all}
 use Rattle.js_value.specs.Conversions.{is_same_text}
-use Rattle.plain_heap.specs.Heap.{Key, Property, Class, ObjectState, Heap, object_at, set_object, new_cell, set_cell, new_scope, new_state, new_object}
-use Rattle.plain_heap.specs.Methods.{Descriptor, own_property, with_property, delete, put, Define, define, Defined, get, GotValue}
+use Rattle.plain_heap.specs.Heap.{Key, Property, Class, ObjectState, Heap, object_at, set_object, is_function, new_cell, set_cell, new_scope, new_state, new_object}
+use Rattle.plain_heap.specs.Methods.{Descriptor, own_property, with_property, delete, put, Define, define, Defining, Defined, Rejected, BadLength, IfSame, get, GotValue}
 use Rattle.plain_heap.specs.Values.{Value, ObjNo, CellNo, ScopeNo}
-use Rattle.plain_heap.specs.Valid.{are_distinct, if_some, is_cell, is_class, is_object, is_valid}
+use Rattle.plain_heap.specs.Valid.{are_distinct, if_some, is_value, is_cell, is_class, is_object, is_valid}
 
 -- a property that is set is there, the others are what they were, and each key stays distinct
 pub record SetsProperties : Type 0 where
@@ -54,3 +54,21 @@ pub record ChangesValid : Type 0 where
   pub closes : (h : Heap) (o : ObjNo) (state : ObjectState) → is_valid h ≡ true → object_at h o ≡ Some state → IsKept h (set_object o (record state { extensible = false }) h)
   pub deletes : (h : Heap) (o : ObjNo) (key : Key) (state after : ObjectState) → is_valid h ≡ true → object_at h o ≡ Some state → delete key state ≡ Some after
       → IsKept h (set_object o after h)
+
+-- the values of a change are values of this heap, and its getter and setter are functions there
+abbrev pub is_change : Heap → Descriptor → Bool
+is_change h d = if_some (is_value h) d.value && if_some (if_some (is_function h)) d.get && if_some (if_some (is_function h)) d.set
+
+-- the object that a change leaves, whether it is made or rejected, by any answers to its questions
+abbrev pub outcome : (Value → Value → Bool) → Defining → Option ObjectState
+outcome same (Defined o) = Some o
+outcome same (Rejected o) = Some o
+outcome same BadLength = None
+outcome same (IfSame v w rest) = outcome same (rest (same v w))
+
+-- 8.12.9, 15.4.5.1 and 8.12.5: properties of objects and arrays
+pub record DefinesValid : Type 0 where
+  pub defines : (h : Heap) (o : ObjNo) (key : Key) (d : Descriptor) (same : Value → Value → Bool) (state after : ObjectState) → is_valid h ≡ true → object_at h o ≡ Some state → is_change h d ≡ true
+      → outcome same (define key d state) ≡ Some after → IsKept h (set_object o after h)
+  pub puts : (h : Heap) (o : ObjNo) (key : Key) (v : Value) (d : Descriptor) (same : Value → Value → Bool) (state after : ObjectState) → is_valid h ≡ true → object_at h o ≡ Some state → is_value h v ≡ true
+      → put h o key v ≡ Define d → outcome same (define key d state) ≡ Some after → IsKept h (set_object o after h)

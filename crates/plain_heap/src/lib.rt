@@ -2,7 +2,7 @@
 //! (8.12, 15.4.5).
 #![tactic(auto)]
 
-ghost use Rattle.plain_heap.specs.Laws.{ChangesValid, DeletesProperties, GetsWhatWasPut, MakesValid, SetsProperties};
+ghost use Rattle.plain_heap.specs.Laws.{ChangesValid, DefinesValid, DeletesProperties, GetsWhatWasPut, MakesValid, SetsProperties};
 ghost use Rattle.plain_heap.specs.MethodCases.{MethodCases};
 
 /// Cases of the internal methods and of valid heaps, worked out by hand.
@@ -22,8 +22,9 @@ pub fn property_laws()
 {}
 
 /// Laws of valid heaps, for every heap: what an operation leaves is valid again, and each number is still one.
-#[tactic(auto, using(crate::proofs::Making::makes_valid, crate::proofs::Changing::changes_valid))]
+#[tactic(auto, using(crate::proofs::Making::makes_valid, crate::proofs::Changing::changes_valid, crate::proofs::Lengths::defines_valid))]
 pub fn valid_laws()
     ensures makes { MakesValid }
     ensures changes { ChangesValid }
+    ensures defines { DefinesValid }
 {}
