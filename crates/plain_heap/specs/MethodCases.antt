@@ -2,8 +2,8 @@
 use Rattle.std.specs.Prelude.{◌≡◌, ℕ, nat_eq, neg_ℤ, pos, Bool, true, false, List, [], ◌∷◌, ◌++◌, map, codes, Option, Some, None}
 use Rattle.js_value.specs.Conversions.{is_same_value}
 use Rattle.js_value.specs.declared.primitive.Primitive.TheVariants as primitive
-use Rattle.plain_heap.specs.Values.{Value, Prim, Object, undefined, number, text}
-use Rattle.plain_heap.specs.Heap.{Key, Property, Properties, Accessor, Class, Plain, Array, Builtin, ObjectState, Heap, data_property}
+use Rattle.plain_heap.specs.Values.{Value, Prim, Object, Absent, undefined, number, text}
+use Rattle.plain_heap.specs.Heap.{Key, Property, Properties, Accessor, Class, Plain, Array, Function, Builtin, ObjectState, Scope, Heap, data_property, resolve}
 use Rattle.plain_heap.specs.Methods.{Descriptor, no_fields, value_field, data_fields, Got, GotValue, CallGetter, get, can_put, Putting, Refuse, Define, CallSetter, put, has_property, delete, Defining, Defined, Rejected, BadLength, IfSame, define, array_index, length_key}
 use Rattle.plain_heap.specs.Valid.{is_valid}
 
@@ -319,6 +319,15 @@ array_rows =
 abbrev pub with_objects : List ObjectState → Heap
 with_objects objects = record { objects = objects; cells = []; scopes = [] }
 
+abbrev pub with_scopes : List ObjectState → List Value → List Scope → Heap
+with_scopes objects cells scopes = record { objects = objects; cells = cells; scopes = scopes }
+
+abbrev pub scope : Option ℕ → List (Key × ℕ) → Scope
+scope outer names = record { outer = outer; names = names }
+
+abbrev pub function : Option ℕ → ObjectState
+function inside = state (Function (record { 0 = 0 }) inside) None true []
+
 abbrev pub valid_rows : List (Heap × Bool)
 valid_rows =
     (family, true)
@@ -338,6 +347,53 @@ valid_rows =
     ∷ (with_objects (state Array None true [] ∷ []), false)
     ∷ (with_objects (array 1 true two_elements ∷ []), false)
     ∷ (with_objects (state Array None true ((length_key, data_property (number 0) true true false) ∷ []) ∷ []), false)
+    -- cells: of values, of an object, of one that isn't there, and of a built-in that is left out, which a property may have
+    ∷ (with_scopes [] (number 1 ∷ text a ∷ []) [], true)
+    ∷ (with_scopes (plain [] ∷ []) (Object 0 ∷ []) [], true)
+    ∷ (with_scopes (plain [] ∷ []) (Object 1 ∷ []) [], false)
+    ∷ (with_scopes [] (Absent ∷ []) [], false)
+    ∷ (with_objects (plain ((a, data_property Absent true true true) ∷ []) ∷ []), true)
+    -- scopes: with a cell, with one that isn't there, and with a name twice
+    ∷ (with_scopes [] (number 1 ∷ []) (scope None ((a, 0) ∷ []) ∷ []), true)
+    ∷ (with_scopes [] (number 1 ∷ []) (scope None ((a, 1) ∷ []) ∷ []), false)
+    ∷ (with_scopes [] (number 1 ∷ []) (scope None ((a, 0) ∷ (a, 0) ∷ []) ∷ []), true)
+    -- scopes inside one with a lower and with a higher number, and inside one that isn't there
+    ∷ (with_scopes [] [] (scope None [] ∷ scope (Some 0) [] ∷ []), true)
+    ∷ (with_scopes [] [] (scope (Some 1) [] ∷ scope None [] ∷ []), true)
+    ∷ (with_scopes [] [] (scope None [] ∷ scope (Some 2) [] ∷ []), false)
+    -- a scope inside itself, and two inside each other
+    ∷ (with_scopes [] [] (scope (Some 0) [] ∷ []), false)
+    ∷ (with_scopes [] [] (scope (Some 1) [] ∷ scope (Some 0) [] ∷ []), false)
+    -- functions made in global code, in a scope, and in one that isn't there
+    ∷ (with_scopes (function None ∷ []) [] [], true)
+    ∷ (with_scopes (function (Some 0) ∷ []) [] (scope None [] ∷ []), true)
+    ∷ (with_scopes (function (Some 1) ∷ []) [] (scope None [] ∷ []), false)
+    ∷ []
+
+-- ---- 10.2.2.1: names along scopes
+
+-- Scope 0 is outermost, with `a` and `b`; scope 1 in it has `a` as well; scope 2 in that one has `c` twice.
+abbrev pub nested : Heap
+nested = with_scopes [] (number 0 ∷ number 1 ∷ number 2 ∷ number 3 ∷ number 4 ∷ []) (scope None ((a, 0) ∷ (b, 1) ∷ []) ∷ scope (Some 0) ((a, 2) ∷ []) ∷ scope (Some 1) ((c, 3) ∷ (c, 4) ∷ []) ∷ [])
+
+abbrev pub resolve_rows : List (Option ℕ × Key × Option ℕ)
+resolve_rows =
+    -- in global code no scope binds a name
+    (None, a, None)
+    -- the scope itself
+    ∷ (Some 0, a, Some 0)
+    ∷ (Some 0, b, Some 1)
+    ∷ (Some 0, c, None)
+    -- one around it, unless a nearer one has the name
+    ∷ (Some 1, a, Some 2)
+    ∷ (Some 1, b, Some 1)
+    ∷ (Some 1, c, None)
+    ∷ (Some 2, a, Some 2)
+    ∷ (Some 2, b, Some 1)
+    -- the first of two
+    ∷ (Some 2, c, Some 3)
+    -- none of them
+    ∷ (Some 2, codes "d", None)
     ∷ []
 
 pub record MethodCases : Type 0 where
@@ -350,3 +406,4 @@ pub record MethodCases : Type 0 where
   pub defines : map answer_of define_rows ≡ map (λ row. row.3) define_rows
   pub arrays : map answer_of array_rows ≡ map (λ row. row.3) array_rows
   pub valid : map (λ row. is_valid row.0) valid_rows ≡ map (λ row. row.1) valid_rows
+  pub resolves : map (λ row. resolve nested row.0 row.1) resolve_rows ≡ map (λ row. row.2) resolve_rows
