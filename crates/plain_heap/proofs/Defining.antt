@@ -131,7 +131,7 @@ all_put test key p (q ∷ ps) is all = by_key (is_same_text q.0 key) refl (all_p
     by_key true same rest = and_from (test (q.0, p)) (list_all test ps) (ap (λ k. test (k, p)) (same_text q.0 key (sym same)) ∙ is) (and_parts (test q) (list_all test ps) all).1
     by_key false same rest = and_from (test q) (list_all test (put_at key p ps)) (and_parts (test q) (list_all test ps) all).0 rest
 
-found_right : (test : Key × Property → Bool) (same : (k m : Key) (p : Property) → test (k, p) ≡ test (m, p)) (key : Key) (p : Property) (ps : List (Key × Property)) → list_all test ps ≡ true → lookup key ps ≡ Some p → test (key, p) ≡ true
+pub found_right : {A : Type 0} (test : Key × A → Bool) (same : (k m : Key) (p : A) → test (k, p) ≡ test (m, p)) (key : Key) (p : A) (ps : List (Key × A)) → list_all test ps ≡ true → lookup key ps ≡ Some p → test (key, p) ≡ true
 found_right test same key p [] all at = grind (arith, at)
 found_right test same key p (q ∷ ps) all at = by_key (is_same_text q.0 key) (found_right test same key p ps (and_parts (test q) (list_all test ps) all).1) at
   where

@@ -6,3 +6,4 @@ pub mod Making
 pub mod Changing
 pub mod Defining
 pub mod Lengths
+pub mod Giving

@@ -1,10 +1,10 @@
 -- New cells, scopes and objects keep a heap valid.
-use Rattle.std.proofs.Common.{◌≡◌, refl, true, List, [], ◌∷◌, arith}
+use Rattle.std.proofs.Common.{◌≡◌, refl, true, List, [], ◌∷◌, arith, ap, ◌∙◌, sym}
 use Rattle.std.specs.Prelude.{◌<◌, suc, length, ℕ, nat_lt, ◌&&◌, Option, Some, None}
 use Rattle.std.specs.List.{list_all}
 use Rattle.std.proofs.lemmas.Bool.{and_parts, and_from}
-use Rattle.std.proofs.lemmas.List.{length-append, length-set}
-use Rattle.plain_heap.specs.Heap.{Heap, Key, Property, Class, Plain, Array, Function, Builtin, ObjectState, Scope, object_at, first_properties, new_cell, set_cell, new_scope, new_state, new_object}
+use Rattle.std.proofs.lemmas.List.{append_assoc, length-append, length-set}
+use Rattle.plain_heap.specs.Heap.{Heap, Key, Property, Class, Plain, Array, Function, Builtin, ObjectState, Scope, object_at, first_properties, new_cell, set_cell, new_scope, new_state, new_object, add_object}
 use Rattle.plain_heap.specs.Values.{ObjNo, CellNo, ScopeNo, Value}
 use Rattle.plain_heap.specs.Valid.{if_some, is_property, are_distinct, is_class, is_object, chain_ends, scope_chain_ends, is_scope, is_cell, is_valid}
 use Rattle.plain_heap.specs.Laws.{IsKept, MakesValid, add_objects}
@@ -190,5 +190,14 @@ makes_object h class prototype valid inside right =
     let is = right_whole after state ends (first_distinct class) (first_right after class) (class_kept h after grown state class right) in
     adds_objects h (state ∷ []) valid (and_from (is_object after state) true is refl)
 
+pair_is : (h : Heap) (a b : ObjectState) → add_objects (a ∷ b ∷ []) h ≡ add_object b (add_object a h)
+pair_is h a b = ap (λ (objects : List ObjectState). record h { objects = objects }) (sym (append_assoc h.objects (a ∷ []) (b ∷ [])))
+
+adds_pair : (h : Heap) (a b : ObjectState) → is_valid h ≡ true → is_object (add_object b (add_object a h)) a ≡ true → is_object (add_object b (add_object a h)) b ≡ true
+    → IsKept h (add_object b (add_object a h))
+adds_pair h a b valid first second =
+    let both : list_all (is_object (add_objects (a ∷ b ∷ []) h)) (a ∷ b ∷ []) ≡ true = ap (λ g. list_all (is_object g) (a ∷ b ∷ [])) (pair_is h a b) ∙ rw (first, second) refl in
+    rw (sym (pair_is h a b)) (adds_objects h (a ∷ b ∷ []) valid both)
+
 pub makes_valid : MakesValid
-makes_valid = record { cell = makes_cell; set = sets_cell; scope = makes_scope; object = makes_object; objects = adds_objects }
+makes_valid = record { cell = makes_cell; set = sets_cell; scope = makes_scope; object = makes_object; objects = adds_objects; pair = adds_pair }

@@ -2,8 +2,8 @@
 use Rattle.std.specs.Prelude.{◌≡◌, ◌≤◌, ◌&&◌, ℕ, nat_lt, length, Bool, List, [], ◌∷◌, ◌++◌, true, false, Option, Some, None}
 use Rattle.std.specs.List.{list_all}
 use Rattle.js_value.specs.Conversions.{is_same_text}
-use Rattle.plain_heap.specs.Heap.{Key, Property, Class, ObjectState, Heap, object_at, set_object, is_function, new_cell, set_cell, new_scope, new_state, new_object}
-use Rattle.plain_heap.specs.Methods.{Descriptor, own_property, with_property, delete, put, Define, define, Defining, Defined, Rejected, BadLength, IfSame, get, GotValue}
+use Rattle.plain_heap.specs.Heap.{Key, Property, Class, ObjectState, Heap, object_at, set_object, is_function, cell, resolve, new_cell, set_cell, new_scope, new_state, new_object, add_object}
+use Rattle.plain_heap.specs.Methods.{Descriptor, own_property, with_property, delete, put, Define, define, Defining, Defined, Rejected, BadLength, IfSame, get, GotValue, CallGetter, CallSetter}
 use Rattle.plain_heap.specs.Values.{Value, ObjNo, CellNo, ScopeNo}
 use Rattle.plain_heap.specs.Valid.{are_distinct, if_some, is_value, is_cell, is_class, is_object, is_valid}
 
@@ -44,8 +44,10 @@ pub record MakesValid : Type 0 where
       → list_all (λ (n : List ℕ × CellNo). nat_lt n.1 (length h.cells)) names ≡ true → IsKept h (new_scope outer names h)
   pub object : (h : Heap) (class : Class) (prototype : Option ObjNo) → is_valid h ≡ true → if_some (λ o. nat_lt o (length h.objects)) prototype ≡ true
       → is_class h (new_state class prototype) class ≡ true → IsKept h (new_object class prototype h)
-  -- objects that may refer to one another, as a function and its prototype
+  -- objects that may refer to one another, and two of them, as a function and its prototype
   pub objects : (h : Heap) (states : List ObjectState) → is_valid h ≡ true → list_all (is_object (add_objects states h)) states ≡ true → IsKept h (add_objects states h)
+  pub pair : (h : Heap) (a b : ObjectState) → is_valid h ≡ true → is_object (add_object b (add_object a h)) a ≡ true → is_object (add_object b (add_object a h)) b ≡ true
+      → IsKept h (add_object b (add_object a h))
 
 -- an object that is changed
 pub record ChangesValid : Type 0 where
@@ -72,3 +74,11 @@ pub record DefinesValid : Type 0 where
       → outcome same (define key d state) ≡ Some after → IsKept h (set_object o after h)
   pub puts : (h : Heap) (o : ObjNo) (key : Key) (v : Value) (d : Descriptor) (same : Value → Value → Bool) (state after : ObjectState) → is_valid h ≡ true → object_at h o ≡ Some state → is_value h v ≡ true
       → put h o key v ≡ Define d → outcome same (define key d state) ≡ Some after → IsKept h (set_object o after h)
+
+-- what a valid heap gives: values, functions and cells that are there
+pub record GivesValues : Type 0 where
+  pub gets : (h : Heap) (o : ObjNo) (key : Key) (v : Value) → is_valid h ≡ true → get h o key ≡ GotValue v → is_value h v ≡ true
+  pub getters : (h : Heap) (o f : ObjNo) (key : Key) → is_valid h ≡ true → get h o key ≡ CallGetter f → is_function h f ≡ true
+  pub setters : (h : Heap) (o f : ObjNo) (key : Key) (v : Value) → is_valid h ≡ true → put h o key v ≡ CallSetter f → is_function h f ≡ true
+  pub cells : (h : Heap) (c : CellNo) (v : Value) → is_valid h ≡ true → cell h c ≡ Some v → is_cell h v ≡ true
+  pub names : (h : Heap) (s : Option ScopeNo) (name : List ℕ) (c : CellNo) → is_valid h ≡ true → resolve h s name ≡ Some c → nat_lt c (length h.cells) ≡ true

@@ -2,10 +2,10 @@
 //! (8.12, 15.4.5).
 #![tactic(auto)]
 
-ghost use Rattle.plain_heap.specs.Laws.{ChangesValid, DefinesValid, DeletesProperties, GetsWhatWasPut, MakesValid, SetsProperties};
+ghost use Rattle.plain_heap.specs.Laws.{ChangesValid, DefinesValid, DeletesProperties, GetsWhatWasPut, GivesValues, MakesValid, SetsProperties};
 ghost use Rattle.plain_heap.specs.MethodCases.{MethodCases};
 
-/// Cases of the internal methods and of valid heaps, worked out by hand.
+/// Cases of the internal methods, of valid heaps and of names along scopes, worked out by hand.
 #[tactic(auto, using(crate::proofs::MethodCases::method_cases))]
 pub fn method_cases()
     ensures { MethodCases }
@@ -21,10 +21,12 @@ pub fn property_laws()
     ensures gets { GetsWhatWasPut }
 {}
 
-/// Laws of valid heaps, for every heap: what an operation leaves is valid again, and each number is still one.
-#[tactic(auto, using(crate::proofs::Making::makes_valid, crate::proofs::Changing::changes_valid, crate::proofs::Lengths::defines_valid))]
+/// Laws of valid heaps, for every heap (8.6, 8.12, 10.2, 15.4.5.1): where an operation is given values of the heap, what it leaves
+/// is valid again and each number of an object, a cell or a scope is still one; and what a valid heap gives is there.
+#[tactic(auto, using(crate::proofs::Making::makes_valid, crate::proofs::Changing::changes_valid, crate::proofs::Lengths::defines_valid, crate::proofs::Giving::gives_values))]
 pub fn valid_laws()
     ensures makes { MakesValid }
     ensures changes { ChangesValid }
     ensures defines { DefinesValid }
+    ensures gives { GivesValues }
 {}
