@@ -1,22 +1,19 @@
 -- An object that is changed keeps a heap valid.
 use Rattle.std.proofs.Common.{◌≡◌, refl, ap, ◌∙◌, Bool, true, false, List, [], ◌∷◌, arith, sym}
-use Rattle.std.specs.Prelude.{zero, suc, ℕ, nat_lt, ◌&&◌, not, if◌then◌else◌, Option, Some, None, slice_get, slice_set, is_some}
+use Rattle.std.specs.Prelude.{zero, suc, ℕ, nat_lt, ◌&&◌, not, Option, Some, None, slice_get, slice_set, is_some}
 use Rattle.std.specs.Cmp.Lexicographic.{same_text}
 use Rattle.std.specs.List.{list_all}
 use Rattle.std.proofs.lemmas.Bool.{and_parts}
 use Rattle.std.proofs.lemmas.List.{length-set}
 use Rattle.js_value.specs.Conversions.{is_same_text}
 use Rattle.plain_heap.specs.Heap.{Heap, Key, Property, Data, Accessor, DataProperty, Class, Plain, Array, Function, Builtin, ObjectState, object_at, set_object, is_configurable, without, lookup}
-use Rattle.plain_heap.specs.Methods.{or_value, own_property, length_key, length_of, array_index, delete, delete_by}
+use Rattle.plain_heap.specs.Methods.{own_property, length_key, length_of, array_index, delete, delete_by}
 use Rattle.plain_heap.specs.Values.{ObjNo}
 use Rattle.plain_heap.specs.Valid.{if_some, is_property, are_distinct, is_length, is_class, is_object, is_valid}
 use Rattle.plain_heap.specs.Laws.{IsKept, ChangesValid}
-use Rattle.plain_heap.proofs.Properties.{has, same_sym, same_as}
+use Rattle.plain_heap.proofs.Properties.{has, same_sym, same_as, some_is, only_some}
 use Rattle.plain_heap.proofs.Grown.{Grown, StillThere, all_set, one_of_all, object_kept}
 use Rattle.plain_heap.proofs.Making.{parts, right_parts, right_whole, still, kept}
-
-pub some_is : {A : Type 0} (x y : A) → Some x ≡ Some y → x ≡ y
-some_is x y is = ap (or_value x) is
 
 -- ---- an object in the place of another
 
@@ -199,10 +196,6 @@ like_without h key o is =
       distinct = distinct_without key o.properties was.distinct;
       properties = all_without (λ (p : Key × Property). is_property h p.1) key o.properties was.properties;
     }
-
-pub only_some : {B : Type 0} (b : Bool) (x y : B) → (if b then Some x else None) ≡ Some y → (b ≡ true) × (x ≡ y)
-only_some true x y is = (refl, some_is x y is)
-only_some false x y is = grind (arith, is)
 
 deletes_by : (h : Heap) (o : ObjNo) (key : Key) (state after : ObjectState) (found : Option Property) → is_valid h ≡ true → object_at h o ≡ Some state → own_property key state ≡ found
     → delete_by key state found ≡ Some after → IsKept h (set_object o after h)

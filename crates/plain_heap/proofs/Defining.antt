@@ -10,9 +10,9 @@ use Rattle.plain_heap.specs.Methods.{Descriptor, Defining, Defined, Rejected, Ba
 use Rattle.plain_heap.specs.Values.{Value, ObjNo, undefined}
 use Rattle.plain_heap.specs.Valid.{if_some, is_value, is_property}
 use Rattle.plain_heap.specs.Laws.{is_change, outcome}
-use Rattle.plain_heap.proofs.Properties.{distinct_put, lookup_put, lookup_put_other}
-use Rattle.plain_heap.proofs.Grown.{all_kept}
-use Rattle.plain_heap.proofs.Changing.{IsLike, some_is, below_length}
+use Rattle.plain_heap.proofs.Properties.{some_is, distinct_put, lookup_put, lookup_put_other}
+use Rattle.plain_heap.proofs.Grown.{less_kept, all_kept}
+use Rattle.plain_heap.proofs.Changing.{IsLike, below_length}
 
 -- ---- what holds of each outcome: of objects whose change was made, and of those whose change was rejected
 
@@ -185,9 +185,6 @@ put_length h base o q r n m array is enumerable configurable below = record {
   configurable = configurable;
   below = all_put (below_length (Some m)) length_key (Data r) o.properties (length_below m (Data r)) below;
 }
-
-less_kept : (i m n : ℕ) → m ≤ n → nat_lt i m ≡ true → nat_lt i n ≡ true
-less_kept i m n le is = grind (arith, le, is)
 
 if_less : (m n : ℕ) (i : Option ℕ) → m ≤ n → if_some (λ i. nat_lt i m) i ≡ true → if_some (λ i. nat_lt i n) i ≡ true
 if_less m n None le is = refl

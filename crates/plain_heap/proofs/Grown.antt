@@ -68,7 +68,7 @@ pub record Grown (h after : Heap) : Type 0 where
   pub cell_count : length h.cells ≤ length after.cells
   pub scope_count : length h.scopes ≤ length after.scopes
 
-less_kept : (i m n : ℕ) → m ≤ n → nat_lt i m ≡ true → nat_lt i n ≡ true
+pub less_kept : (i m n : ℕ) → m ≤ n → nat_lt i m ≡ true → nat_lt i n ≡ true
 less_kept i m n le is = grind (arith, le, is)
 
 pub chain_kept : (h after : Heap) → Grown h after → (m n : ℕ) (o : Option ObjNo) → m ≤ n → chain_ends m h o ≡ true → chain_ends n after o ≡ true

@@ -15,9 +15,9 @@ use Rattle.plain_heap.specs.Valid.{if_some, is_value, is_property, are_distinct,
 use Rattle.plain_heap.specs.Laws.{is_change, IsKept, DefinesValid, outcome}
 use Rattle.plain_heap.proofs.Making.{right_parts}
 use Rattle.plain_heap.proofs.Puts.{for_put}
-use Rattle.plain_heap.proofs.Properties.{has}
+use Rattle.plain_heap.proofs.Properties.{only_some, has}
 use Rattle.plain_heap.proofs.Grown.{all_kept}
-use Rattle.plain_heap.proofs.Changing.{IsLike, HasLength, below_length, only_some, right_at, stays_kept, like_self, has_length, length_is}
+use Rattle.plain_heap.proofs.Changing.{IsLike, HasLength, below_length, right_at, stays_kept, like_self, has_length, length_is}
 use Rattle.plain_heap.proofs.Defining.{Ends, ends_if, ends_then, plain_ends, IsArrayTo, put_length, put_element, below_kept, length_ends, define_writable, no_index, ends_outcome, like_with}
 
 -- an array that is right
@@ -132,13 +132,13 @@ module _ {A : Type 0} (test : Key × A → Bool) where
   lookup_filtered key [] is = refl
   lookup_filtered key (p ∷ ps) is = by_key (is_same_text p.0 key) refl (lookup_filtered key ps is)
     where
-      by_test : (b : Bool) (rest : List (Key × A)) → is_same_text p.0 key ≡ false → lookup key (filter test ps) ≡ lookup key ps → lookup key (if b then (p ∷ filter test ps) else filter test ps) ≡ lookup key (p ∷ ps)
-      by_test true rest differ same = rw differ same
-      by_test false rest differ same = rw differ same
+      by_test : (b : Bool) → is_same_text p.0 key ≡ false → lookup key (filter test ps) ≡ lookup key ps → lookup key (if b then (p ∷ filter test ps) else filter test ps) ≡ lookup key (p ∷ ps)
+      by_test true differ same = rw differ same
+      by_test false differ same = rw differ same
 
       by_key : (b : Bool) → is_same_text p.0 key ≡ b → lookup key (filter test ps) ≡ lookup key ps → lookup key (filter test (p ∷ ps)) ≡ lookup key (p ∷ ps)
       by_key true same rest = rw (ap (λ k. test (k, p.1)) (same_text p.0 key (sym same)) ∙ is p.1, same) refl
-      by_key false differ rest = by_test (test p) ps differ rest
+      by_key false differ rest = by_test (test p) differ rest
 
 below_is : (n : ℕ) (p : Key × Property) → is_below n p ≡ true → below_length (Some n) p ≡ true
 below_is n p is = by_index (array_index p.0) is

@@ -65,14 +65,17 @@ sets_properties = record {
   distinct = λ key p o h. distinct_put key p o.properties h;
 }
 
-only_then : {B : Type 0} (b : Bool) (x y : B) → (if b then Some x else None) ≡ Some y → x ≡ y
-only_then true x y e = ap (or_value x) e
-only_then false x y e = grind (arith, e)
+pub some_is : {A : Type 0} (x y : A) → Some x ≡ Some y → x ≡ y
+some_is x y is = ap (or_value x) is
+
+pub only_some : {B : Type 0} (b : Bool) (x y : B) → (if b then Some x else None) ≡ Some y → (b ≡ true) × (x ≡ y)
+only_some true x y is = (refl, some_is x y is)
+only_some false x y is = grind (arith, is)
 
 gone_by : (key : Key) (o after : ObjectState) (found : Option Property) → are_distinct o.properties ≡ true → lookup key o.properties ≡ found → delete_by key o found ≡ Some after
     → own_property key after ≡ None
 gone_by key o after None distinct is e = rw (sym (ap (or_value o) e)) is
-gone_by key o after (Some p) distinct is e = rw (sym (only_then (is_configurable p) (record o { properties = without key o.properties }) after e)) (gone key o.properties distinct)
+gone_by key o after (Some p) distinct is e = rw (sym (only_some (is_configurable p) (record o { properties = without key o.properties }) after e).1) (gone key o.properties distinct)
 
 deletes_gone : (key : Key) (o after : ObjectState) → are_distinct o.properties ≡ true → delete key o ≡ Some after → own_property key after ≡ None
 unfolding delete

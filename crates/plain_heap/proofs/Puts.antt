@@ -10,7 +10,7 @@ use Rattle.plain_heap.specs.Values.{ObjNo, Value, Prim, number}
 use Rattle.js_value.specs.Conversions.{is_same_text}
 use Rattle.plain_heap.specs.Laws.{GetsWhatWasPut}
 use Rattle.plain_heap.specs.Heap.{Heap, object_at, set_object, Key, Property, Data, Accessor, DataProperty, ObjectState, is_array_class}
-use Rattle.plain_heap.proofs.Properties.{lookup_put, lookup_put_other, same_sym}
+use Rattle.plain_heap.proofs.Properties.{lookup_put, lookup_put_other, same_sym, only_some}
 use Rattle.js_value.specs.declared.primitive.Primitive.TheVariants as primitive
 
 -- a change that has a value, and neither getter nor setter
@@ -125,12 +125,8 @@ element_gives key v w e c o after length old index differ is = by_index (nat_lt 
 
 -- ---- the length of an array
 
-some_chosen : (b : Bool) (n wanted : ℕ) → (if b then Some n else None) ≡ Some wanted → n ≡ wanted
-some_chosen true n wanted is = ap (λ m. or_value n m) is
-some_chosen false n wanted is = grind (arith, is)
-
 length_is : (v : Value) (wanted : ℕ) → length_of v ≡ Some wanted → v ≡ number wanted
-length_is (Prim (primitive.Number (pos n))) wanted is = ap number (some_chosen (nat_le n greatest_length) n wanted is)
+length_is (Prim (primitive.Number (pos n))) wanted is = ap number (only_some (nat_le n greatest_length) n wanted is).1
 length_is v wanted is = grind (arith, is)
 
 equal_numbers : (m n : ℕ) → nat_eq m n ≡ true → m ≡ n
