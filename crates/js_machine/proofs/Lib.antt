@@ -13,5 +13,12 @@ pub mod ObjectRuns
 pub mod ArrayRuns
 pub mod ListingCases
 pub mod RealmCases
+pub mod Variables
+pub mod GlobalVariables
+pub mod GlobalNames
+pub mod Declaring
+pub mod SimpleExpressions
+pub mod SimpleStatements
+pub mod SimpleScripts
 pub mod Steps
 pub mod TextCases

@@ -1,7 +1,7 @@
 -- The residual of variables rebuilds them, a step for each statement and expression.
 use Rattle.std.proofs.Common.{◌≡◌, ℕ, suc, pos, negsuc, ◌+◌, true, false, List, [], ◌∷◌, length, map, refl, ap, ◌∙◌, sym, zero-add, arith}
 use Rattle.std.specs.Prelude.{ℤ, Option, Some, None, Ok, Err}
-use Rattle.std.specs.List.{fold, flat_map, AllByRecursion, IsDistinct}
+use Rattle.std.specs.List.{flat_map, AllByRecursion, IsDistinct}
 use Rattle.std.specs.Map.{keys_of}
 use Rattle.std.specs.Ordering.{int_eq}
 use Rattle.std.specs.Str.{bytes_eq}
@@ -26,6 +26,7 @@ use Rattle.js_machine.specs.Simple.{minus_rule, form_rule, expr_rule, evaluation
 use Rattle.js_machine.specs.Runs.{World, Ended, Normal, walk, plain}
 use Rattle.js_machine.proofs.Forms.{fold-literal, fold-minus, in_stmt-var}
 use Rattle.js_machine.proofs.Reading.{declarators_of-var}
+use Rattle.js_machine.proofs.Variables.{declare_all}
 use Rattle.js_machine.specs.Readable.{is_plain_value, is_readable_variable, is_readable, constant_at, variables_at, place_behind, placed}
 
 -- ---- heaps
@@ -55,10 +56,6 @@ declare-past name e heap other =
 -- a name that none of these is
 abbrev DiffersFromAll : List ℕ → List (List ℕ) → Type 0
 DiffersFromAll name names = AllByRecursion (λ y. bytes_eq name y ≡ false) names
-
--- the heap with these names declared
-abbrev declare_all : Heap → List (List ℕ) → Heap
-declare_all heap names = fold (λ heap name. declare name heap) heap names
 
 -- declarations of other names go past a property
 declare_all-past : (names : List (List ℕ)) (e : List ℕ × Primitive) (heap : Heap) → DiffersFromAll e.0 names → declare_all (e ∷ heap) names ≡ e ∷ declare_all heap names

@@ -4,6 +4,7 @@ pub mod Runs
 pub mod Listing
 pub mod Readable
 pub mod Machine
+pub mod SimpleRuns
 pub mod RunCases
 pub mod ExpressionRuns
 pub mod WorldRuns

@@ -20,6 +20,7 @@ ghost use Rattle.js_machine.specs.ListingCases.{ListingCases};
 ghost use Rattle.js_machine.specs.Machine.Laws.{MoreSteps};
 ghost use Rattle.js_machine.specs.ObjectRuns.{ObjectRuns};
 ghost use Rattle.js_machine.specs.RealmCases.{RealmCases};
+ghost use Rattle.js_machine.specs.SimpleRuns.{SimpleRuns};
 ghost use Rattle.js_machine.specs.StatementRuns.{StatementRuns};
 ghost use Rattle.js_machine.specs.TextCases.{TextCases};
 ghost use Rattle.js_machine.specs.WorldRuns.{WorldRuns};
@@ -71,4 +72,10 @@ pub fn realm_cases()
 #[tactic(auto, using(crate::proofs::Steps::more_steps))]
 pub fn run_laws()
     ensures { MoreSteps }
+{}
+
+/// A law of simple scripts: by the rules of the whole language they run as by their own.
+#[tactic(auto, using(crate::proofs::SimpleScripts::simple_runs_hold))]
+pub fn simple_run_law()
+    ensures { SimpleRuns }
 {}
