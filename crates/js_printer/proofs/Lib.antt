@@ -1,4 +1,4 @@
+pub mod Back
 pub mod Forms
-pub mod PrintCases
 pub mod Putting
 pub mod StatementForms

@@ -1,13 +1,58 @@
 -- Pieces that are put one after another.
 use Rattle.std.proofs.Common.{◌≡◌, ◌<◌, ◌≤◌, ◌-◌, drop, arith, ◌∙◌, ℕ, ◌+◌, List, [], ◌∷◌, ◌++◌, refl, ap, sym, take, get_or, length, append-nil}
-use Rattle.std.specs.Prelude.{Result, Ok, Err, OnOk, codes}
+use Rattle.std.specs.Prelude.{Result, Ok, Err, OnOk, codes, ℤ, false}
 use Rattle.std.proofs.lemmas.List.{take_more, take_all}
 use Rattle.std.proofs.lemmas.Grind.{flat_map-append}
-use Rattle.js_printer.specs.Pieces.{Piece, Page, put, put_all, closing, behind_commas, separated}
+use Rattle.script_text.specs.Pieces.{Piece, closing, behind_commas, separated}
+use Rattle.js_printer.specs.Sheets.{put, put_all}
+use Rattle.js_printer.specs.declared.sheet.Sheet.{Sheet}
+use Rattle.js_printer.specs.declared.sheet.Sheet.TheVariants.{Lines, Code}
+use Rattle.script_text.specs.CodeLine.{CodeLine, add, add_all}
+use Rattle.script_text.specs.Pieces as pieces
+use Rattle.script_text.specs.Pieces.{Page, Token, Named, Quoted, Number, utf8}
+use Rattle.script_text.specs.declared.gap.Gap.{Gap}
+use Rattle.script_text.specs.declared.gap.Gap.TheVariants.{Loose}
+use Rattle.js_value.specs.Texts.{quoted}
+use Rattle.std.specs.Fmt.{signed_decimal}
+use Rattle.js_printer.specs.declared.sheet.Sheet.{Sheet}
 
-pub put_all-append : (xs ys : List Piece) (p : Page) → put_all (xs ++ ys) p ≡ put_all ys (put_all xs p)
+pub put_all-append : (xs ys : List Piece) (p : Sheet) → put_all (xs ++ ys) p ≡ put_all ys (put_all xs p)
 put_all-append [] ys p = refl
 put_all-append (x ∷ xs) ys p = put_all-append xs ys (put p x)
+
+-- what is put on lines is on lines, and what is put on a line of code is on it
+pub put_all-Lines : (xs : List Piece) (p : Page) → put_all xs (Lines p) ≡ Lines (pieces.put_all xs p)
+unfolding put
+put_all-Lines [] p = refl
+put_all-Lines (x ∷ xs) p = put_all-Lines xs (pieces.put p x)
+
+pub put_all-Code : (xs : List Piece) (c : CodeLine) → put_all xs (Code c) ≡ Code (add_all xs c)
+unfolding put
+put_all-Code [] c = refl
+put_all-Code (x ∷ xs) c = put_all-Code xs (add c x)
+
+-- names, strings and numbers are put as the tokens that they are
+
+pub put-Named : (s : Sheet) (name : List ℕ) (behind : Gap) → put s (Named name behind) ≡ put s (Token (utf8 name) false behind)
+unfolding put pieces.put add
+put-Named (Lines p) name behind = refl
+put-Named (Code c) name behind = refl
+
+pub put-Quoted : (s : Sheet) (text : List ℕ) (behind : Gap) → put s (Quoted text behind) ≡ put s (Token (quoted text) false behind)
+unfolding put pieces.put add
+put-Quoted (Lines p) text behind = refl
+put-Quoted (Code c) text behind = refl
+
+pub put-Number : (s : Sheet) (n : ℤ) → put s (Number n) ≡ put s (Token (signed_decimal n) false Loose)
+unfolding put pieces.put add
+put-Number (Lines p) n = refl
+put-Number (Code c) n = refl
+
+pub ruleset as_tokens = (put-Named, put-Quoted, put-Number)
+
+pub ruleset on_lines = (put_all-Lines)
+
+pub ruleset on_code = (put_all-Code)
 
 pub ruleset appended = (put_all-append)
 
@@ -17,7 +62,7 @@ on_ok_along (Ok v) x y z h e = h ∙ e
 on_ok_along (Err v) x y z h e = h
 
 -- one more part behind a comma
-pub commas-push : {A : Type 0} (f : A → List Piece) (xs : List A) (i : ℕ) (x : A) → i < length xs → x ≡ get_or xs i x → (p : Page)
+pub commas-push : {A : Type 0} (f : A → List Piece) (xs : List A) (i : ℕ) (x : A) → i < length xs → x ≡ get_or xs i x → (p : Sheet)
     → put_all (behind_commas f (take (i + 1) xs)) p ≡ put_all (f x) (put_all (closing (codes ",")) (put_all (behind_commas f (take i xs)) p))
 commas-push {A = A} f xs i x below is p =
     let item : A → List Piece = λ y. closing (codes ",") ++ f y in
@@ -29,7 +74,7 @@ commas-push {A = A} f xs i x below is p =
 
 -- the first part, and the others behind commas
 pub separated-whole : {A : Type 0} (f : A → List Piece) (xs : List A) (i : ℕ) (x : A) → 1 ≤ length xs → length (take (length xs - 1) (drop 1 xs)) ≤ i
-    → x ≡ get_or xs 0 x → (p : Page)
+    → x ≡ get_or xs 0 x → (p : Sheet)
     → put_all (behind_commas f (take i (take (length xs - 1) (drop 1 xs)))) (put_all (f x) p) ≡ put_all (separated f xs) p
 separated-whole f [] i x one all is p = absurd (omega (arith, one))
 separated-whole f (y ∷ ys) i x one all is p =
@@ -39,6 +84,6 @@ separated-whole f (y ∷ ys) i x one all is p =
     ∙ ap (λ z. put_all (behind_commas f ys) (put_all (f z) p)) is
     ∙ sym (put_all-append (f y) (behind_commas f ys) p)
 
-pub separated-none : {A : Type 0} (f : A → List Piece) (xs : List A) → length xs < 1 → (p : Page) → p ≡ put_all (separated f xs) p
+pub separated-none : {A : Type 0} (f : A → List Piece) (xs : List A) → length xs < 1 → (p : Sheet) → p ≡ put_all (separated f xs) p
 separated-none f [] none p = refl
 separated-none f (x ∷ xs) none p = absurd (omega (arith, none))

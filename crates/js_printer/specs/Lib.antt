@@ -1,6 +1,3 @@
-pub mod Expressions
-pub mod Pieces
-pub mod PrintCases
-pub mod Printing
-pub mod Statements
+pub mod GivesBack
+pub mod Sheets
 pub mod Writes

@@ -2,19 +2,21 @@
 
 ghost use Rattle.std.specs.Prelude.{◌≡◌, ◌++◌, ◌∷◌, [], map, OnOk, true, false};
 ghost use Rattle.std.specs.Option.{option_map};
-ghost use Rattle.js_printer.specs.Expressions as spec;
-ghost use Rattle.js_printer.specs.Pieces.{put_all, separated, behind_commas};
-ghost use Rattle.js_printer.specs.Printing.{function_to};
+ghost use Rattle.script_text.specs.Expressions as spec;
+ghost use Rattle.js_printer.specs.Sheets.{put_all};
+ghost use Rattle.script_text.specs.Pieces.{separated, behind_commas};
+ghost use Rattle.script_text.specs.Printing.{function_to};
 ghost use Rattle.js_printer.specs.Writes.{Writes};
 
 use crate::leftmost::calls;
-use crate::page::Page;
+use crate::sheet::Sheet;
 use crate::words::{
-    accessor_key, assignment_operator, binary_level, is_in, is_number, key, level, literal,
-    logic_level, logic_operator, name, operator, two_literals, unary_operator,
+    assignment_operator, binary_level, is_in, is_number, key, level, literal, logic_level,
+    logic_operator, operator, two_literals, unary_operator,
 };
 use js_tree::{Expr, ExprForm, Field, Func, StepOp};
 use js_value::{FuncNo, Kind, NoMemory, Text};
+use script_text::Gap;
 use std::alloc::Global;
 
 /// Writes trees whose functions are these.
@@ -27,12 +29,12 @@ pub struct Printer<'a, F> {
     pub function: F,
 }
 
-impl<F: Fn(Global, &[Func], &mut Page, usize, FuncNo, bool) -> Result<(), NoMemory>> Printer<
+impl<F: Fn(Global, &[Func], &mut Sheet, usize, FuncNo, bool) -> Result<(), NoMemory>> Printer<
     '_,
     F,
 > {
     /// A function behind the word that begins it, with or without its name.
-    pub fn function(&self, page: &mut Page, f: FuncNo, named: bool) -> Result<(), NoMemory>
+    pub fn function(&self, page: &mut Sheet, f: FuncNo, named: bool) -> Result<(), NoMemory>
         requires { Writes self.now.funcs.now self.now.depth (F.pre self.now.function) (F.post self.now.function) }
         ensures { OnOk result (page.new ≡ put_all (function_to self.now.depth self.now.funcs.now named f) page.old) }
     {
@@ -43,7 +45,7 @@ impl<F: Fn(Global, &[Func], &mut Page, usize, FuncNo, bool) -> Result<(), NoMemo
     #[tactic(auto, using(crate::proofs::Putting::appended))]
     pub fn grouped(
         &self,
-        page: &mut Page,
+        page: &mut Sheet,
         form: &ExprForm,
         is_grouped: bool,
         allows_in: bool,
@@ -64,7 +66,7 @@ impl<F: Fn(Global, &[Func], &mut Page, usize, FuncNo, bool) -> Result<(), NoMemo
     #[tactic(auto, using(crate::proofs::Putting::appended))]
     pub fn expr(
         &self,
-        page: &mut Page,
+        page: &mut Sheet,
         e: &Expr,
         wanted: u8,
         allows_in: bool,
@@ -79,7 +81,7 @@ impl<F: Fn(Global, &[Func], &mut Page, usize, FuncNo, bool) -> Result<(), NoMemo
     /// What stands before a point.
     #[cycle(expression)]
     #[tactic(auto, using(crate::proofs::Putting::appended))]
-    fn object(&self, page: &mut Page, e: &Expr, allows_in: bool) -> Result<(), NoMemory>
+    fn object(&self, page: &mut Sheet, e: &Expr, allows_in: bool) -> Result<(), NoMemory>
         requires { Writes self.now.funcs.now self.now.depth (F.pre self.now.function) (F.post self.now.function) }
         ensures { OnOk result (page.new ≡ put_all (spec.object allows_in (spec.printed (function_to self.now.depth self.now.funcs.now) e.now)) page.old) }
     {
@@ -89,7 +91,7 @@ impl<F: Fn(Global, &[Func], &mut Page, usize, FuncNo, bool) -> Result<(), NoMemo
 
     #[cycle(expression)]
     #[tactic(auto, using(crate::proofs::Putting::appended))]
-    fn callee_of_new(&self, page: &mut Page, e: &Expr, allows_in: bool) -> Result<(), NoMemory>
+    fn callee_of_new(&self, page: &mut Sheet, e: &Expr, allows_in: bool) -> Result<(), NoMemory>
         requires { Writes self.now.funcs.now self.now.depth (F.pre self.now.function) (F.post self.now.function) }
         ensures { OnOk result (page.new ≡ put_all (spec.callee_of_new allows_in (spec.printed (function_to self.now.depth self.now.funcs.now) e.now)) page.old) }
     {
@@ -99,13 +101,13 @@ impl<F: Fn(Global, &[Func], &mut Page, usize, FuncNo, bool) -> Result<(), NoMemo
 
     #[cycle(expression)]
     #[tactic(auto, using(crate::proofs::Forms::forms))]
-    fn form(&self, page: &mut Page, form: &ExprForm, allows_in: bool) -> Result<(), NoMemory>
+    fn form(&self, page: &mut Sheet, form: &ExprForm, allows_in: bool) -> Result<(), NoMemory>
         requires { Writes self.now.funcs.now self.now.depth (F.pre self.now.function) (F.post self.now.function) }
         ensures { OnOk result (page.new ≡ put_all (spec.tokens (spec.printed_form (function_to self.now.depth self.now.funcs.now) form.now) allows_in) page.old) }
     {
         match form {
             ExprForm::This => page.word(b"this"),
-            ExprForm::Name(units) => name(self.alloc, page, units),
+            ExprForm::Name(units) => page.reference(self.alloc, units),
             ExprForm::Literal(value) => literal(self.alloc, page, value),
             ExprForm::ArrayLit(items) => {
                 page.opening(b"[")?;
@@ -124,7 +126,7 @@ impl<F: Fn(Global, &[Func], &mut Page, usize, FuncNo, bool) -> Result<(), NoMemo
             ExprForm::Member(object, key) => {
                 self.object(page, object, allows_in)?;
                 page.inner(b".")?;
-                name(self.alloc, page, key)
+                page.named(self.alloc, key, Gap::Loose)
             }
             ExprForm::Index(object, key) => {
                 self.expr(page, object, 16, allows_in)?;
@@ -180,8 +182,8 @@ impl<F: Fn(Global, &[Func], &mut Page, usize, FuncNo, bool) -> Result<(), NoMemo
 
     /// `[key]`
     #[cycle(expression)]
-    #[tactic(auto, using(crate::proofs::Putting::appended), unfolding(crate::specs::Expressions::index))]
-    fn index(&self, page: &mut Page, key: &Expr) -> Result<(), NoMemory>
+    #[tactic(auto, using(crate::proofs::Putting::appended), unfolding(script_text::specs::Expressions::index))]
+    fn index(&self, page: &mut Sheet, key: &Expr) -> Result<(), NoMemory>
         requires { Writes self.now.funcs.now self.now.depth (F.pre self.now.function) (F.post self.now.function) }
         ensures { OnOk result (page.new ≡ put_all (spec.index (spec.printed (function_to self.now.depth self.now.funcs.now) key.now)) page.old) }
     {
@@ -193,7 +195,7 @@ impl<F: Fn(Global, &[Func], &mut Page, usize, FuncNo, bool) -> Result<(), NoMemo
     /// `(a, b)`
     #[cycle(expression)]
     #[tactic(auto, using(crate::proofs::Putting::appended))]
-    fn arguments(&self, page: &mut Page, all: &[Expr]) -> Result<(), NoMemory>
+    fn arguments(&self, page: &mut Sheet, all: &[Expr]) -> Result<(), NoMemory>
         requires { Writes self.now.funcs.now self.now.depth (F.pre self.now.function) (F.post self.now.function) }
         ensures { OnOk result (page.new ≡ put_all (spec.in_parentheses (separated (spec.argument (function_to self.now.depth self.now.funcs.now)) all.now)) page.old) }
     {
@@ -204,7 +206,7 @@ impl<F: Fn(Global, &[Func], &mut Page, usize, FuncNo, bool) -> Result<(), NoMemo
 
     #[cycle(expression)]
     #[tactic(auto, using(crate::proofs::Putting::appended))]
-    fn values(&self, page: &mut Page, all: &[Expr]) -> Result<(), NoMemory>
+    fn values(&self, page: &mut Sheet, all: &[Expr]) -> Result<(), NoMemory>
         requires { Writes self.now.funcs.now self.now.depth (F.pre self.now.function) (F.post self.now.function) }
         ensures { OnOk result (page.new ≡ put_all (separated (spec.argument (function_to self.now.depth self.now.funcs.now)) all.now) page.old) }
     {
@@ -221,7 +223,7 @@ impl<F: Fn(Global, &[Func], &mut Page, usize, FuncNo, bool) -> Result<(), NoMemo
     /// `, a, b`
     #[cycle(expression)]
     #[tactic(auto, using(crate::proofs::Putting::appended))]
-    fn values_behind(&self, page: &mut Page, all: &[Expr]) -> Result<(), NoMemory>
+    fn values_behind(&self, page: &mut Sheet, all: &[Expr]) -> Result<(), NoMemory>
         requires { Writes self.now.funcs.now self.now.depth (F.pre self.now.function) (F.post self.now.function) }
         ensures { OnOk result (page.new ≡ put_all (behind_commas (spec.argument (function_to self.now.depth self.now.funcs.now)) all.now) page.old) }
     {
@@ -235,7 +237,7 @@ impl<F: Fn(Global, &[Func], &mut Page, usize, FuncNo, bool) -> Result<(), NoMemo
     /// The inside of an array literal (11.1.4).
     #[cycle(expression)]
     #[tactic(auto, using(crate::proofs::Putting::appended))]
-    fn elements(&self, page: &mut Page, all: &[Option<Expr>]) -> Result<(), NoMemory>
+    fn elements(&self, page: &mut Sheet, all: &[Option<Expr>]) -> Result<(), NoMemory>
         requires { Writes self.now.funcs.now self.now.depth (F.pre self.now.function) (F.post self.now.function) }
         ensures { OnOk result (page.new ≡ put_all (spec.elements (function_to self.now.depth self.now.funcs.now) all.now) page.old) }
     {
@@ -256,7 +258,7 @@ impl<F: Fn(Global, &[Func], &mut Page, usize, FuncNo, bool) -> Result<(), NoMemo
     /// The inside of an object literal (11.1.5).
     #[cycle(expression)]
     #[tactic(auto, using(crate::proofs::Putting::appended))]
-    fn fields(&self, page: &mut Page, all: &[Field]) -> Result<(), NoMemory>
+    fn fields(&self, page: &mut Sheet, all: &[Field]) -> Result<(), NoMemory>
         requires { Writes self.now.funcs.now self.now.depth (F.pre self.now.function) (F.post self.now.function) }
         ensures { OnOk result (page.new ≡ put_all (separated (spec.printed_field (function_to self.now.depth self.now.funcs.now)) all.now) page.old) }
     {
@@ -272,24 +274,24 @@ impl<F: Fn(Global, &[Func], &mut Page, usize, FuncNo, bool) -> Result<(), NoMemo
 
     #[cycle(expression)]
     #[tactic(auto, using(crate::proofs::Putting::appended))]
-    fn field(&self, page: &mut Page, field: &Field) -> Result<(), NoMemory>
+    fn field(&self, page: &mut Sheet, field: &Field) -> Result<(), NoMemory>
         requires { Writes self.now.funcs.now self.now.depth (F.pre self.now.function) (F.post self.now.function) }
         ensures { OnOk result (page.new ≡ put_all (spec.printed_field (function_to self.now.depth self.now.funcs.now) field.now) page.old) }
     {
         match field {
             Field::Value(_, text, e) => {
-                key(self.alloc, page, text)?;
+                key(self.alloc, page, text, Gap::Loose)?;
                 page.closing(b":")?;
                 self.expr(page, e, 2, true)
             }
             Field::Getter(_, text, f) => {
                 page.word(b"get")?;
-                accessor_key(self.alloc, page, text)?;
+                key(self.alloc, page, text, Gap::Tight)?;
                 self.function(page, *f, false)
             }
             Field::Setter(_, text, f) => {
                 page.word(b"set")?;
-                accessor_key(self.alloc, page, text)?;
+                key(self.alloc, page, text, Gap::Tight)?;
                 self.function(page, *f, false)
             }
         }
@@ -297,10 +299,10 @@ impl<F: Fn(Global, &[Func], &mut Page, usize, FuncNo, bool) -> Result<(), NoMemo
 
     /// `? a` and `: b` of a conditional expression (11.12).
     #[cycle(expression)]
-    #[tactic(auto, using(crate::proofs::Putting::appended), unfolding(crate::specs::Expressions::branch))]
+    #[tactic(auto, using(crate::proofs::Putting::appended), unfolding(script_text::specs::Expressions::branch))]
     fn choice(
         &self,
-        page: &mut Page,
+        page: &mut Sheet,
         e: &Expr,
         sign: &[u8],
         allows_in: bool,
@@ -315,7 +317,7 @@ impl<F: Fn(Global, &[Func], &mut Page, usize, FuncNo, bool) -> Result<(), NoMemo
     /// `++` and `--` (11.3, 11.4.4, 11.4.5).
     #[cycle(expression)]
     #[tactic(auto, using(crate::proofs::Putting::appended))]
-    fn step(&self, page: &mut Page, a: &Expr, op: StepOp, allows_in: bool) -> Result<(), NoMemory>
+    fn step(&self, page: &mut Sheet, a: &Expr, op: StepOp, allows_in: bool) -> Result<(), NoMemory>
         requires { Writes self.now.funcs.now self.now.depth (F.pre self.now.function) (F.post self.now.function) }
         ensures { OnOk result (page.new ≡ put_all (spec.stepped op allows_in (spec.printed (function_to self.now.depth self.now.funcs.now) a.now)) page.old) }
     {
@@ -340,7 +342,7 @@ impl<F: Fn(Global, &[Func], &mut Page, usize, FuncNo, bool) -> Result<(), NoMemo
     }
 
     #[tactic(auto, using(crate::proofs::Putting::appended))]
-    fn input(&self, page: &mut Page, kind: Kind, text: &Text) -> Result<(), NoMemory>
+    fn input(&self, page: &mut Sheet, kind: Kind, text: &Text) -> Result<(), NoMemory>
         ensures { OnOk result (page.new ≡ put_all (spec.input kind text.now) page.old) }
     {
         page.word(b"__abstract")?;
@@ -350,10 +352,10 @@ impl<F: Fn(Global, &[Func], &mut Page, usize, FuncNo, bool) -> Result<(), NoMemo
     }
 
     #[cycle(expression)]
-    #[tactic(auto, using(crate::proofs::Putting::appended), unfolding(crate::specs::Expressions::host_call))]
+    #[tactic(auto, using(crate::proofs::Putting::appended), unfolding(script_text::specs::Expressions::host_call))]
     fn host_call(
         &self,
-        page: &mut Page,
+        page: &mut Sheet,
         args: &[Expr],
         kind: Kind,
         text: &Text,
@@ -368,7 +370,7 @@ impl<F: Fn(Global, &[Func], &mut Page, usize, FuncNo, bool) -> Result<(), NoMemo
 }
 
 /// `__residual("number", "now"`
-fn host_call_start(alloc: Global, page: &mut Page, kind: Kind, text: &Text) -> Result<(), NoMemory>
+fn host_call_start(alloc: Global, page: &mut Sheet, kind: Kind, text: &Text) -> Result<(), NoMemory>
     ensures { OnOk result (page.new ≡ put_all (spec.host_call_start kind text.now) page.old) }
 {
     page.word(b"__residual")?;
@@ -387,7 +389,7 @@ fn ends_in_elision(all: &[Option<Expr>]) -> bool
 }
 
 /// An elision at the end takes a comma of its own (11.1.4).
-fn last_comma(page: &mut Page, all: &[Option<Expr>]) -> Result<(), NoMemory>
+fn last_comma(page: &mut Sheet, all: &[Option<Expr>]) -> Result<(), NoMemory>
     ensures { OnOk result (page.new ≡ put_all (spec.last_comma (spec.ends_in_elision all.now)) page.old) }
 {
     if ends_in_elision(all) {

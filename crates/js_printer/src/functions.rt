@@ -1,21 +1,30 @@
 //! Functions by their numbers, and whole scripts.
 
-ghost use Rattle.std.specs.Prelude.{◌≡◌, OnOk, IfOk};
-ghost use Rattle.js_printer.specs.Pieces.{put_all};
-ghost use Rattle.js_printer.specs.Printing as spec;
+ghost use Rattle.std.specs.Prelude.{◌≡◌, OnOk, IfOk, IsTrue};
+ghost use Rattle.js_grammar.specs.Readable.{is_readable};
+ghost use Rattle.js_printer.specs.GivesBack.{GivesBack};
+ghost use Rattle.js_printer.specs.Sheets.{put_all};
+ghost use Rattle.js_printer.specs.Sheets.{bytes_of};
+ghost use Rattle.script_text.specs.CodeLine as line;
+ghost use Rattle.script_text.specs.Printing as spec;
 
+use crate::bound::copies;
+use crate::code_line::CodeLine;
 use crate::expressions::Printer;
 use crate::page::Page;
+use crate::sheet::Sheet;
 use js_tree::{Func, Script};
-use js_value::{Bytes, FuncNo, NoMemory};
+use js_value::{Bytes, FuncNo, NoMemory, Text};
+use lexing_back::lexing_back;
+use reading_back::reading_back;
 use std::alloc::Global;
 
 /// A function by its number, with functions inside it to a depth.
-#[tactic(auto, unfolding(crate::specs::Printing::function_to))]
+#[tactic(auto, unfolding(script_text::specs::Printing::function_to))]
 fn function(
     alloc: Global,
     funcs: &[Func],
-    page: &mut Page,
+    page: &mut Sheet,
     depth: usize,
     f: FuncNo,
     named: bool,
@@ -37,20 +46,68 @@ fn function(
     .func(page, found, named)
 }
 
-/// The text of a script: its tokens with parentheses where a part is looser than its place takes, each statement on lines of
-/// its own. It ends with a line end, or is empty.
-#[tactic(auto, unfolding(crate::specs::Printing::script_text))]
-pub fn print(alloc: Global, script: &Script) -> Result<Bytes, NoMemory>
-    ensures { IfOk result (λ b. b ≡ spec.script_text script.now) }
+/// Puts the tokens of a script.
+fn script(alloc: Global, script: &Script, page: &mut Sheet) -> Result<(), NoMemory>
+    ensures { OnOk result (page.new ≡ put_all (spec.script_pieces script.now) page.old) }
 {
     let funcs = script.funcs.as_slice();
-    let mut page = Page::new(alloc);
     Printer {
         alloc,
         funcs,
         depth: funcs.len(),
         function,
     }
-    .code(&mut page, script.directive, script.body.as_slice())?;
-    Ok(page.into_bytes())
+    .code(page, script.directive, script.body.as_slice())
+}
+
+/// Puts the tokens of a function's code.
+#[tactic(auto, using(crate::proofs::Putting::appended))]
+fn code(alloc: Global, script: &Script, f: FuncNo, page: &mut Sheet) -> Result<(), NoMemory>
+    ensures { OnOk result (page.new ≡ put_all (line.code_pieces script.now f) page.old) }
+{
+    page.word(b"function")?;
+    let funcs = script.funcs.as_slice();
+    function(alloc, funcs, page, funcs.len(), f, false)
+}
+
+fn into_bytes(page: Sheet) -> Bytes
+    ensures { result ≡ bytes_of page }
+{
+    match page {
+        Sheet::Lines(page) => page.into_bytes(),
+        Sheet::Code(line) => line.into_bytes(),
+    }
+}
+
+/// The text of a script: its tokens with parentheses where a part is looser than its place takes, each statement on lines of
+/// its own. It ends with a line end, or is empty. Of a script that reading can give the text lexes and reads back to the script.
+#[tactic(auto, using(crate::proofs::Putting::on_lines), unfolding(script_text::specs::Printing::script_text))]
+pub fn print(alloc: Global, script: &Script) -> Result<Bytes, NoMemory>
+    ensures text { IfOk result (λ b. b ≡ spec.script_text script.now) }
+    ensures back { IsTrue (is_readable script.now) → IfOk result (λ b. GivesBack b script.now) }
+{
+    // Laws of the definitions, with nothing to run.
+    lexing_back();
+    reading_back();
+    let mut page = Sheet::Lines(Page::new(alloc));
+    crate::functions::script(alloc, script, &mut page)?;
+    Ok(into_bytes(page))
+}
+
+/// The code of a function on one line: its tokens without its own name, one space between them. The `k`-th of the given names,
+/// from 1, is `%k` wherever it is read or assigned to and the code around doesn't bind it. Empty but for the word `function`
+/// where the script has no such function.
+#[tactic(auto, using(crate::proofs::Putting::on_code), unfolding(script_text::specs::CodeLine::code_text))]
+pub fn code_text(
+    alloc: Global,
+    script: &Script,
+    f: FuncNo,
+    names: &[Text],
+) -> Result<Bytes, NoMemory>
+    ensures { IfOk result (λ b. b ≡ line.code_text script.now f names.now) }
+{
+    let names = copies(alloc, names)?;
+    let mut page = Sheet::Code(CodeLine::new(alloc, names));
+    code(alloc, script, f, &mut page)?;
+    Ok(into_bytes(page))
 }

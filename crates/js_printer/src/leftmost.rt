@@ -2,8 +2,8 @@
 
 ghost use Rattle.std.specs.Prelude.{Bool, List, ◌≡◌};
 ghost use Rattle.js_value.specs.declared.place.FuncNo.{FuncNo as Number};
-ghost use Rattle.js_printer.specs.Pieces.{Piece};
-ghost use Rattle.js_printer.specs.Expressions as spec;
+ghost use Rattle.script_text.specs.Pieces.{Piece};
+ghost use Rattle.script_text.specs.Expressions as spec;
 
 use crate::words::{binary_level, is_postfix, level, logic_level};
 use js_tree::{Expr, ExprForm};

@@ -1,21 +1,18 @@
 //! Writes scripts as text.
 #![tactic(auto)]
 
-ghost use Rattle.js_printer.specs.PrintCases.{PrintCases};
-
+mod bound;
+mod code_line;
 mod expressions;
 mod functions;
 mod leftmost;
+#[cfg(test)]
+mod line_tests;
 mod page;
+mod sheet;
 mod statements;
 #[cfg(test)]
 mod tests;
 mod words;
 
-pub use functions::print;
-
-/// Cases of the text of scripts, worked out by hand.
-#[tactic(auto, using(crate::proofs::PrintCases::print_cases))]
-pub fn printing_cases()
-    ensures { PrintCases }
-{}
+pub use functions::{code_text, print};

@@ -1,25 +1,13 @@
-//! A text that grows by tokens.
+//! The lines of a text.
 
 ghost use Rattle.std.specs.Prelude.{◌≡◌, ◌++◌, ◌*◌, replicate, OnOk};
-ghost use Rattle.js_printer.specs.Pieces as spec;
-ghost use Rattle.js_printer.specs.Pieces.{put, put_all, Token, LineEnd, Open, Close};
+ghost use Rattle.script_text.specs.Pieces as spec;
+ghost use Rattle.script_text.specs.Pieces.{put, Token, LineEnd, Open, Close, Reference};
 
-use js_value::{Bytes, NoMemory, Seq};
+use js_value::{Bytes, NoMemory, Seq, Text};
+use script_text::Gap;
 use std::alloc::Global;
 use std::marker::Model;
-
-/// What may stand before the next token.
-#[derive(Clone, Copy)]
-pub enum Gap {
-    /// The indentation of its line, which begins with it.
-    Start,
-    /// Nothing.
-    Tight,
-    /// Nothing, or a space where two signs would meet.
-    Sign,
-    /// A space, unless the token stands without one before it.
-    Loose,
-}
 
 /// A text that grows by tokens.
 #[derive(Drop)]
@@ -30,7 +18,7 @@ pub struct Page {
 }
 
 impl Model for Page {
-    ghost use Rattle.js_printer.specs.Pieces.{Page as Written};
+    ghost use Rattle.script_text.specs.Pieces.{Page as Written};
 
     ghost Value = { Written };
 
@@ -101,7 +89,7 @@ impl Page {
     }
 
     /// Puts a token, whether no space is to stand before it, and what may stand behind it.
-    #[tactic(auto, unfolding(crate::specs::Pieces::put))]
+    #[tactic(auto, unfolding(script_text::specs::Pieces::put))]
     pub fn token(&mut self, text: &[u8], is_tight: bool, behind: Gap) -> Result<(), NoMemory>
         ensures { OnOk result (self.new ≡ put self.old (Token text.now is_tight behind)) }
     {
@@ -111,37 +99,25 @@ impl Page {
         Ok(())
     }
 
-    pub fn word(&mut self, text: &[u8]) -> Result<(), NoMemory>
-        ensures { OnOk result (self.new ≡ put_all (spec.word text.now) self.old) }
+    /// A name that is read or assigned to.
+    #[tactic(auto, unfolding(script_text::specs::Pieces::put))]
+    pub fn reference(&mut self, alloc: Global, name: &Text) -> Result<(), NoMemory>
+        ensures { OnOk result (self.new ≡ put self.old (Reference name.now)) }
     {
-        self.token(text, false, Gap::Loose)
+        let text = String::from_utf16_lossy(alloc, name.as_slice())?;
+        begin(
+            &mut self.bytes,
+            self.gap,
+            false,
+            self.depth,
+            text.as_bytes(),
+        )?;
+        self.bytes.extend_from_slice(text.as_bytes())?;
+        self.gap = Gap::Loose;
+        Ok(())
     }
 
-    pub fn closing(&mut self, text: &[u8]) -> Result<(), NoMemory>
-        ensures { OnOk result (self.new ≡ put_all (spec.closing text.now) self.old) }
-    {
-        self.token(text, true, Gap::Loose)
-    }
-
-    pub fn opening(&mut self, text: &[u8]) -> Result<(), NoMemory>
-        ensures { OnOk result (self.new ≡ put_all (spec.opening text.now) self.old) }
-    {
-        self.token(text, false, Gap::Tight)
-    }
-
-    pub fn inner(&mut self, text: &[u8]) -> Result<(), NoMemory>
-        ensures { OnOk result (self.new ≡ put_all (spec.inner text.now) self.old) }
-    {
-        self.token(text, true, Gap::Tight)
-    }
-
-    pub fn prefix(&mut self, text: &[u8]) -> Result<(), NoMemory>
-        ensures { OnOk result (self.new ≡ put_all (spec.prefix text.now) self.old) }
-    {
-        self.token(text, false, Gap::Sign)
-    }
-
-    #[tactic(auto, unfolding(crate::specs::Pieces::put))]
+    #[tactic(auto, unfolding(script_text::specs::Pieces::put))]
     pub fn end_line(&mut self) -> Result<(), NoMemory>
         ensures { OnOk result (self.new ≡ put self.old LineEnd) }
     {
@@ -151,7 +127,7 @@ impl Page {
     }
 
     /// One more level of indentation.
-    #[tactic(auto, unfolding(crate::specs::Pieces::put))]
+    #[tactic(auto, unfolding(script_text::specs::Pieces::put))]
     pub fn open(&mut self) -> Result<(), NoMemory>
         ensures { OnOk result (self.new ≡ put self.old Open) }
     {
@@ -160,7 +136,7 @@ impl Page {
     }
 
     /// One level of indentation less.
-    #[tactic(auto, unfolding(crate::specs::Pieces::put))]
+    #[tactic(auto, unfolding(script_text::specs::Pieces::put))]
     pub fn close(&mut self)
         ensures { self.new ≡ put self.old Close }
     {

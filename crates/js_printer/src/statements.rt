@@ -3,20 +3,21 @@
 ghost use Rattle.std.specs.Prelude.{Bool, List, codes, ◌≡◌, ◌++◌, ◌∷◌, [], map, OnOk, true, false};
 ghost use Rattle.std.specs.List.{flat_map};
 ghost use Rattle.js_value.specs.declared.place.FuncNo.{FuncNo as Number};
-ghost use Rattle.js_printer.specs.Expressions.{expr, maybe_expr, name as name_pieces};
-ghost use Rattle.js_printer.specs.Statements as spec;
-ghost use Rattle.js_printer.specs.Pieces.{Piece, put_all, word, separated, behind_commas};
-ghost use Rattle.js_printer.specs.Printing.{function_to};
+ghost use Rattle.script_text.specs.Expressions.{expr, maybe_expr, name as name_pieces};
+ghost use Rattle.script_text.specs.Statements as spec;
+ghost use Rattle.js_printer.specs.Sheets.{put_all};
+ghost use Rattle.script_text.specs.Pieces.{Piece, word, separated, behind_commas};
+ghost use Rattle.script_text.specs.Printing.{bound_names, function_to};
 ghost use Rattle.js_printer.specs.Writes.{Writes};
 
 use crate::expressions::Printer;
 use crate::leftmost::starts;
-use crate::page::Page;
-use crate::words::{called, name};
+use crate::sheet::Sheet;
 use js_tree::{
     Case, Catch, Declarator, Expr, Finally, ForStart, ForTarget, Func, Name, Stmt, StmtForm,
 };
 use js_value::{FuncNo, NoMemory, Text};
+use script_text::Gap;
 use std::alloc::Global;
 
 /// Whether a statement is a block (12.1).
@@ -59,7 +60,7 @@ fn form_ends_in_brace(form: &StmtForm) -> bool
     }
 }
 
-fn begin_braces(page: &mut Page) -> Result<(), NoMemory>
+fn begin_braces(page: &mut Sheet) -> Result<(), NoMemory>
     ensures { OnOk result (page.new ≡ put_all spec.begin_braces page.old) }
 {
     page.word(b"{")?;
@@ -67,7 +68,7 @@ fn begin_braces(page: &mut Page) -> Result<(), NoMemory>
     page.end_line()
 }
 
-fn end_braces(page: &mut Page) -> Result<(), NoMemory>
+fn end_braces(page: &mut Sheet) -> Result<(), NoMemory>
     ensures { OnOk result (page.new ≡ put_all spec.end_braces page.old) }
 {
     page.close();
@@ -75,14 +76,14 @@ fn end_braces(page: &mut Page) -> Result<(), NoMemory>
 }
 
 /// `{}`
-fn empty_braces(page: &mut Page) -> Result<(), NoMemory>
+fn empty_braces(page: &mut Sheet) -> Result<(), NoMemory>
     ensures { OnOk result (page.new ≡ put_all (spec.in_braces true []) page.old) }
 {
     page.opening(b"{")?;
     page.closing(b"}")
 }
 
-fn use_strict(page: &mut Page) -> Result<(), NoMemory>
+fn use_strict(page: &mut Sheet) -> Result<(), NoMemory>
     ensures { OnOk result (page.new ≡ put_all (spec.directive true) page.old) }
 {
     page.word(b"\"use strict\"")?;
@@ -91,7 +92,7 @@ fn use_strict(page: &mut Page) -> Result<(), NoMemory>
 }
 
 /// The line that the directive of strict code stands on (14.1).
-fn directive(page: &mut Page, is_directive: bool) -> Result<(), NoMemory>
+fn directive(page: &mut Sheet, is_directive: bool) -> Result<(), NoMemory>
     ensures { OnOk result (page.new ≡ put_all (spec.directive is_directive) page.old) }
 {
     if is_directive {
@@ -102,15 +103,15 @@ fn directive(page: &mut Page, is_directive: bool) -> Result<(), NoMemory>
 }
 
 /// Ends the line, unless this holds.
-fn line_end_unless(page: &mut Page, holds: bool) -> Result<(), NoMemory>
+fn line_end_unless(page: &mut Sheet, holds: bool) -> Result<(), NoMemory>
     ensures { OnOk result (page.new ≡ put_all (spec.line_end_unless holds) page.old) }
 {
     if holds { Ok(()) } else { page.end_line() }
 }
 
 /// `else` (12.5).
-#[tactic(auto, using(crate::proofs::Putting::appended), unfolding(crate::specs::Statements::else_word))]
-fn else_word(page: &mut Page, is_block: bool) -> Result<(), NoMemory>
+#[tactic(auto, using(crate::proofs::Putting::appended), unfolding(script_text::specs::Statements::else_word))]
+fn else_word(page: &mut Sheet, is_block: bool) -> Result<(), NoMemory>
     ensures { OnOk result (page.new ≡ put_all (spec.else_word is_block) page.old) }
 {
     line_end_unless(page, is_block)?;
@@ -118,7 +119,7 @@ fn else_word(page: &mut Page, is_block: bool) -> Result<(), NoMemory>
 }
 
 /// `for (`
-fn for_word(page: &mut Page) -> Result<(), NoMemory>
+fn for_word(page: &mut Sheet) -> Result<(), NoMemory>
     ensures { OnOk result (page.new ≡ put_all spec.for_word page.old) }
 {
     page.word(b"for")?;
@@ -126,19 +127,19 @@ fn for_word(page: &mut Page) -> Result<(), NoMemory>
 }
 
 /// `catch (name)`
-#[tactic(auto, unfolding(crate::specs::Statements::catch_head))]
-fn catch_head(alloc: Global, page: &mut Page, text: &Text) -> Result<(), NoMemory>
+#[tactic(auto, unfolding(script_text::specs::Statements::catch_head))]
+fn catch_head(alloc: Global, page: &mut Sheet, text: &Text) -> Result<(), NoMemory>
     ensures { OnOk result (page.new ≡ put_all (spec.catch_head text.now) page.old) }
 {
     page.word(b"catch")?;
     page.opening(b"(")?;
-    name(alloc, page, text)?;
+    page.named(alloc, text, Gap::Loose)?;
     page.closing(b")")
 }
 
 /// The parameters of a function in their parentheses (13).
 #[tactic(auto, using(crate::proofs::Putting::appended))]
-fn parameters(alloc: Global, page: &mut Page, all: &[Name]) -> Result<(), NoMemory>
+fn parameters(alloc: Global, page: &mut Sheet, all: &[Name]) -> Result<(), NoMemory>
     ensures { OnOk result (page.new ≡ put_all (spec.parameters all.now) page.old) }
 {
     page.opening(b"(")?;
@@ -147,34 +148,39 @@ fn parameters(alloc: Global, page: &mut Page, all: &[Name]) -> Result<(), NoMemo
 }
 
 #[tactic(auto, using(crate::proofs::Putting::appended))]
-fn names(alloc: Global, page: &mut Page, all: &[Name]) -> Result<(), NoMemory>
+fn names(alloc: Global, page: &mut Sheet, all: &[Name]) -> Result<(), NoMemory>
     ensures { OnOk result (page.new ≡ put_all (separated spec.parameter all.now) page.old) }
 {
     if let [first, more @ ..] = all {
-        name(alloc, page, &first.text)?;
+        page.named(alloc, &first.text, Gap::Loose)?;
         for x in more {
             page.closing(b",")?;
-            name(alloc, page, &x.text)?;
+            page.named(alloc, &x.text, Gap::Loose)?;
         }
     }
     Ok(())
 }
 
 /// The own name of a function, where it is wanted.
-fn own_name(alloc: Global, page: &mut Page, own: &Option<Name>, named: bool) -> Result<(), NoMemory>
+fn own_name(
+    alloc: Global,
+    page: &mut Sheet,
+    own: &Option<Name>,
+    named: bool,
+) -> Result<(), NoMemory>
     ensures { OnOk result (page.new ≡ put_all (spec.own_name named own.now) page.old) }
 {
     match own {
-        Some(own) if named => called(alloc, page, &own.text),
+        Some(own) if named => page.named(alloc, &own.text, Gap::Tight),
         _ => Ok(()),
     }
 }
 
-impl<F: Fn(Global, &[Func], &mut Page, usize, FuncNo, bool) -> Result<(), NoMemory>> Printer<
+impl<F: Fn(Global, &[Func], &mut Sheet, usize, FuncNo, bool) -> Result<(), NoMemory>> Printer<
     '_,
     F,
 > {
-    fn maybe_expr(&self, page: &mut Page, e: &Option<Expr>) -> Result<(), NoMemory>
+    fn maybe_expr(&self, page: &mut Sheet, e: &Option<Expr>) -> Result<(), NoMemory>
         requires { Writes self.now.funcs.now self.now.depth (F.pre self.now.function) (F.post self.now.function) }
         ensures { OnOk result (page.new ≡ put_all (maybe_expr (function_to self.now.depth self.now.funcs.now) e.now) page.old) }
     {
@@ -185,8 +191,8 @@ impl<F: Fn(Global, &[Func], &mut Page, usize, FuncNo, bool) -> Result<(), NoMemo
     }
 
     /// A word with an expression in parentheses.
-    #[tactic(auto, using(crate::proofs::Putting::appended), unfolding(crate::specs::Statements::head))]
-    fn head(&self, page: &mut Page, first: &[u8], test: &Expr) -> Result<(), NoMemory>
+    #[tactic(auto, using(crate::proofs::Putting::appended), unfolding(script_text::specs::Statements::head))]
+    fn head(&self, page: &mut Sheet, first: &[u8], test: &Expr) -> Result<(), NoMemory>
         requires { Writes self.now.funcs.now self.now.depth (F.pre self.now.function) (F.post self.now.function) }
         ensures { OnOk result (page.new ≡ put_all (spec.head (function_to self.now.depth self.now.funcs.now) first.now test.now) page.old) }
     {
@@ -198,7 +204,7 @@ impl<F: Fn(Global, &[Func], &mut Page, usize, FuncNo, bool) -> Result<(), NoMemo
 
     fn initialiser(
         &self,
-        page: &mut Page,
+        page: &mut Sheet,
         init: &Option<Expr>,
         allows_in: bool,
     ) -> Result<(), NoMemory>
@@ -213,18 +219,18 @@ impl<F: Fn(Global, &[Func], &mut Page, usize, FuncNo, bool) -> Result<(), NoMemo
     }
 
     #[tactic(auto, using(crate::proofs::Putting::appended))]
-    fn declarator(&self, page: &mut Page, d: &Declarator, allows_in: bool) -> Result<(), NoMemory>
+    fn declarator(&self, page: &mut Sheet, d: &Declarator, allows_in: bool) -> Result<(), NoMemory>
         requires { Writes self.now.funcs.now self.now.depth (F.pre self.now.function) (F.post self.now.function) }
         ensures { OnOk result (page.new ≡ put_all (spec.declarator (function_to self.now.depth self.now.funcs.now) allows_in d.now) page.old) }
     {
-        name(self.alloc, page, &d.name)?;
+        page.named(self.alloc, &d.name, Gap::Loose)?;
         self.initialiser(page, &d.init, allows_in)
     }
 
     #[tactic(auto, using(crate::proofs::Putting::appended))]
     fn declarator_list(
         &self,
-        page: &mut Page,
+        page: &mut Sheet,
         all: &[Declarator],
         allows_in: bool,
     ) -> Result<(), NoMemory>
@@ -245,7 +251,7 @@ impl<F: Fn(Global, &[Func], &mut Page, usize, FuncNo, bool) -> Result<(), NoMemo
     #[tactic(auto, using(crate::proofs::Putting::appended))]
     fn declarators(
         &self,
-        page: &mut Page,
+        page: &mut Sheet,
         all: &[Declarator],
         allows_in: bool,
     ) -> Result<(), NoMemory>
@@ -257,7 +263,7 @@ impl<F: Fn(Global, &[Func], &mut Page, usize, FuncNo, bool) -> Result<(), NoMemo
     }
 
     /// The expression of an expression statement (12.4).
-    fn evaluation(&self, page: &mut Page, e: &Expr) -> Result<(), NoMemory>
+    fn evaluation(&self, page: &mut Sheet, e: &Expr) -> Result<(), NoMemory>
         requires { Writes self.now.funcs.now self.now.depth (F.pre self.now.function) (F.post self.now.function) }
         ensures { OnOk result (page.new ≡ put_all (spec.evaluation (function_to self.now.depth self.now.funcs.now) e.now) page.old) }
     {
@@ -265,7 +271,7 @@ impl<F: Fn(Global, &[Func], &mut Page, usize, FuncNo, bool) -> Result<(), NoMemo
     }
 
     /// The first part of a `for` header, where `in` is no operator (12.6.3).
-    fn for_start(&self, page: &mut Page, from: &ForStart) -> Result<(), NoMemory>
+    fn for_start(&self, page: &mut Sheet, from: &ForStart) -> Result<(), NoMemory>
         requires { Writes self.now.funcs.now self.now.depth (F.pre self.now.function) (F.post self.now.function) }
         ensures { OnOk result (page.new ≡ put_all (spec.for_start (function_to self.now.depth self.now.funcs.now) from.now) page.old) }
     {
@@ -277,7 +283,7 @@ impl<F: Fn(Global, &[Func], &mut Page, usize, FuncNo, bool) -> Result<(), NoMemo
     }
 
     /// What a `for`-`in` assigns to (12.6.4).
-    fn for_target(&self, page: &mut Page, to: &ForTarget) -> Result<(), NoMemory>
+    fn for_target(&self, page: &mut Sheet, to: &ForTarget) -> Result<(), NoMemory>
         requires { Writes self.now.funcs.now self.now.depth (F.pre self.now.function) (F.post self.now.function) }
         ensures { OnOk result (page.new ≡ put_all (spec.for_target (function_to self.now.depth self.now.funcs.now) to.now) page.old) }
     {
@@ -285,16 +291,16 @@ impl<F: Fn(Global, &[Func], &mut Page, usize, FuncNo, bool) -> Result<(), NoMemo
             ForTarget::Expr(e) => self.expr(page, e, 16, false),
             ForTarget::Var(_, text) => {
                 page.word(b"var")?;
-                name(self.alloc, page, text)
+                page.named(self.alloc, text, Gap::Loose)
             }
         }
     }
 
     /// `; test; step)`
-    #[tactic(auto, using(crate::proofs::Putting::appended), unfolding(crate::specs::Statements::for_rest))]
+    #[tactic(auto, using(crate::proofs::Putting::appended), unfolding(script_text::specs::Statements::for_rest))]
     fn for_rest(
         &self,
-        page: &mut Page,
+        page: &mut Sheet,
         test: &Option<Expr>,
         step: &Option<Expr>,
     ) -> Result<(), NoMemory>
@@ -308,10 +314,10 @@ impl<F: Fn(Global, &[Func], &mut Page, usize, FuncNo, bool) -> Result<(), NoMemo
         page.closing(b")")
     }
 
-    #[tactic(auto, using(crate::proofs::Putting::appended), unfolding(crate::specs::Statements::for_head))]
+    #[tactic(auto, using(crate::proofs::Putting::appended), unfolding(script_text::specs::Statements::for_head))]
     fn for_head(
         &self,
-        page: &mut Page,
+        page: &mut Sheet,
         from: &ForStart,
         test: &Option<Expr>,
         step: &Option<Expr>,
@@ -325,8 +331,8 @@ impl<F: Fn(Global, &[Func], &mut Page, usize, FuncNo, bool) -> Result<(), NoMemo
     }
 
     /// `in object)`
-    #[tactic(auto, using(crate::proofs::Putting::appended), unfolding(crate::specs::Statements::in_rest))]
-    fn in_rest(&self, page: &mut Page, object: &Expr) -> Result<(), NoMemory>
+    #[tactic(auto, using(crate::proofs::Putting::appended), unfolding(script_text::specs::Statements::in_rest))]
+    fn in_rest(&self, page: &mut Sheet, object: &Expr) -> Result<(), NoMemory>
         requires { Writes self.now.funcs.now self.now.depth (F.pre self.now.function) (F.post self.now.function) }
         ensures { OnOk result (page.new ≡ put_all (spec.in_rest (function_to self.now.depth self.now.funcs.now) object.now) page.old) }
     {
@@ -335,8 +341,8 @@ impl<F: Fn(Global, &[Func], &mut Page, usize, FuncNo, bool) -> Result<(), NoMemo
         page.closing(b")")
     }
 
-    #[tactic(auto, using(crate::proofs::Putting::appended), unfolding(crate::specs::Statements::for_in_head))]
-    fn for_in_head(&self, page: &mut Page, to: &ForTarget, object: &Expr) -> Result<(), NoMemory>
+    #[tactic(auto, using(crate::proofs::Putting::appended), unfolding(script_text::specs::Statements::for_in_head))]
+    fn for_in_head(&self, page: &mut Sheet, to: &ForTarget, object: &Expr) -> Result<(), NoMemory>
         requires { Writes self.now.funcs.now self.now.depth (F.pre self.now.function) (F.post self.now.function) }
         ensures { OnOk result (page.new ≡ put_all (spec.for_in_head (function_to self.now.depth self.now.funcs.now) to.now object.now) page.old) }
     {
@@ -346,8 +352,8 @@ impl<F: Fn(Global, &[Func], &mut Page, usize, FuncNo, bool) -> Result<(), NoMemo
     }
 
     /// What stands behind the body of a `do` (12.6.1).
-    #[tactic(auto, using(crate::proofs::Putting::appended), unfolding(crate::specs::Statements::end_of_do))]
-    fn end_of_do(&self, page: &mut Page, ends_in_brace: bool, test: &Expr) -> Result<(), NoMemory>
+    #[tactic(auto, using(crate::proofs::Putting::appended), unfolding(script_text::specs::Statements::end_of_do))]
+    fn end_of_do(&self, page: &mut Sheet, ends_in_brace: bool, test: &Expr) -> Result<(), NoMemory>
         requires { Writes self.now.funcs.now self.now.depth (F.pre self.now.function) (F.post self.now.function) }
         ensures { OnOk result (page.new ≡ put_all (spec.end_of_do (function_to self.now.depth self.now.funcs.now) ends_in_brace test.now) page.old) }
     {
@@ -355,7 +361,7 @@ impl<F: Fn(Global, &[Func], &mut Page, usize, FuncNo, bool) -> Result<(), NoMemo
         self.head(page, b"while", test)
     }
 
-    fn label(&self, page: &mut Page, test: &Option<Expr>) -> Result<(), NoMemory>
+    fn label(&self, page: &mut Sheet, test: &Option<Expr>) -> Result<(), NoMemory>
         requires { Writes self.now.funcs.now self.now.depth (F.pre self.now.function) (F.post self.now.function) }
         ensures { OnOk result (page.new ≡ put_all (spec.label (function_to self.now.depth self.now.funcs.now) test.now) page.old) }
     {
@@ -370,7 +376,7 @@ impl<F: Fn(Global, &[Func], &mut Page, usize, FuncNo, bool) -> Result<(), NoMemo
 
     /// `case test:` and `default:` (12.11).
     #[tactic(auto, using(crate::proofs::Putting::appended))]
-    fn clause_start(&self, page: &mut Page, test: &Option<Expr>) -> Result<(), NoMemory>
+    fn clause_start(&self, page: &mut Sheet, test: &Option<Expr>) -> Result<(), NoMemory>
         requires { Writes self.now.funcs.now self.now.depth (F.pre self.now.function) (F.post self.now.function) }
         ensures { OnOk result (page.new ≡ put_all (spec.clause_start (spec.label (function_to self.now.depth self.now.funcs.now) test.now)) page.old) }
     {
@@ -383,7 +389,7 @@ impl<F: Fn(Global, &[Func], &mut Page, usize, FuncNo, bool) -> Result<(), NoMemo
     /// A statement without the end of its last line.
     #[cycle(statement)]
     #[tactic(auto, using(crate::proofs::Putting::appended))]
-    fn statement(&self, page: &mut Page, s: &Stmt) -> Result<(), NoMemory>
+    fn statement(&self, page: &mut Sheet, s: &Stmt) -> Result<(), NoMemory>
         requires { Writes self.now.funcs.now self.now.depth (F.pre self.now.function) (F.post self.now.function) }
         ensures { OnOk result (page.new ≡ put_all (spec.shown (function_to self.now.depth self.now.funcs.now) s.now).pieces page.old) }
     {
@@ -392,7 +398,7 @@ impl<F: Fn(Global, &[Func], &mut Page, usize, FuncNo, bool) -> Result<(), NoMemo
 
     #[cycle(statement)]
     #[tactic(auto, using(crate::proofs::Putting::appended))]
-    fn statement_form(&self, page: &mut Page, form: &StmtForm) -> Result<(), NoMemory>
+    fn statement_form(&self, page: &mut Sheet, form: &StmtForm) -> Result<(), NoMemory>
         requires { Writes self.now.funcs.now self.now.depth (F.pre self.now.function) (F.post self.now.function) }
         ensures { OnOk result (page.new ≡ put_all (spec.shown_form (function_to self.now.depth self.now.funcs.now) form.now).pieces page.old) }
     {
@@ -479,7 +485,7 @@ impl<F: Fn(Global, &[Func], &mut Page, usize, FuncNo, bool) -> Result<(), NoMemo
     /// `if (test) a`
     #[cycle(statement)]
     #[tactic(auto, using(crate::proofs::Putting::appended))]
-    fn first_part(&self, page: &mut Page, a: &Stmt, test: &Expr) -> Result<(), NoMemory>
+    fn first_part(&self, page: &mut Sheet, a: &Stmt, test: &Expr) -> Result<(), NoMemory>
         requires { Writes self.now.funcs.now self.now.depth (F.pre self.now.function) (F.post self.now.function) }
         ensures { OnOk result (page.new ≡ put_all (spec.shown (function_to self.now.depth self.now.funcs.now) a.now).pieces (put_all (spec.head (function_to self.now.depth self.now.funcs.now) (codes "if") test.now) page.old)) }
     {
@@ -490,7 +496,7 @@ impl<F: Fn(Global, &[Func], &mut Page, usize, FuncNo, bool) -> Result<(), NoMemo
     /// `else b`
     #[cycle(statement)]
     #[tactic(auto, using(crate::proofs::Putting::appended))]
-    fn other_part(&self, page: &mut Page, b: &Stmt, is_block: bool) -> Result<(), NoMemory>
+    fn other_part(&self, page: &mut Sheet, b: &Stmt, is_block: bool) -> Result<(), NoMemory>
         requires { Writes self.now.funcs.now self.now.depth (F.pre self.now.function) (F.post self.now.function) }
         ensures { OnOk result (page.new ≡ put_all (spec.shown (function_to self.now.depth self.now.funcs.now) b.now).pieces (put_all (spec.else_word is_block) page.old)) }
     {
@@ -501,7 +507,7 @@ impl<F: Fn(Global, &[Func], &mut Page, usize, FuncNo, bool) -> Result<(), NoMemo
     /// `do body`
     #[cycle(statement)]
     #[tactic(auto, using(crate::proofs::Putting::appended))]
-    fn do_part(&self, page: &mut Page, body: &Stmt) -> Result<(), NoMemory>
+    fn do_part(&self, page: &mut Sheet, body: &Stmt) -> Result<(), NoMemory>
         requires { Writes self.now.funcs.now self.now.depth (F.pre self.now.function) (F.post self.now.function) }
         ensures { OnOk result (page.new ≡ put_all (spec.shown (function_to self.now.depth self.now.funcs.now) body.now).pieces (put_all (word (codes "do")) page.old)) }
     {
@@ -512,7 +518,7 @@ impl<F: Fn(Global, &[Func], &mut Page, usize, FuncNo, bool) -> Result<(), NoMemo
     /// `try` with its block (12.14).
     #[cycle(statement)]
     #[tactic(auto, using(crate::proofs::Putting::appended))]
-    fn try_block(&self, page: &mut Page, body: &[Stmt]) -> Result<(), NoMemory>
+    fn try_block(&self, page: &mut Sheet, body: &[Stmt]) -> Result<(), NoMemory>
         requires { Writes self.now.funcs.now self.now.depth (F.pre self.now.function) (F.post self.now.function) }
         ensures { OnOk result (page.new ≡ put_all (spec.block (spec.shown (function_to self.now.depth self.now.funcs.now)) body.now) (put_all (word (codes "try")) page.old)) }
     {
@@ -522,17 +528,20 @@ impl<F: Fn(Global, &[Func], &mut Page, usize, FuncNo, bool) -> Result<(), NoMemo
 
     #[cycle(statement)]
     #[tactic(auto, using(crate::proofs::Putting::appended))]
-    fn handler(&self, page: &mut Page, handler: &Catch) -> Result<(), NoMemory>
+    fn handler(&self, page: &mut Sheet, handler: &Catch) -> Result<(), NoMemory>
         requires { Writes self.now.funcs.now self.now.depth (F.pre self.now.function) (F.post self.now.function) }
         ensures { OnOk result (page.new ≡ put_all (spec.shown_catch (function_to self.now.depth self.now.funcs.now) handler.now) page.old) }
     {
         catch_head(self.alloc, page, &handler.name)?;
-        self.block(page, handler.body.as_slice())
+        page.bind_name(self.alloc, &handler.name)?;
+        self.block(page, handler.body.as_slice())?;
+        page.release();
+        Ok(())
     }
 
     #[cycle(statement)]
     #[tactic(auto, using(crate::proofs::Putting::appended))]
-    fn last(&self, page: &mut Page, last: &Finally) -> Result<(), NoMemory>
+    fn last(&self, page: &mut Sheet, last: &Finally) -> Result<(), NoMemory>
         requires { Writes self.now.funcs.now self.now.depth (F.pre self.now.function) (F.post self.now.function) }
         ensures { OnOk result (page.new ≡ put_all (spec.shown_finally (function_to self.now.depth self.now.funcs.now) last.now) page.old) }
     {
@@ -543,7 +552,7 @@ impl<F: Fn(Global, &[Func], &mut Page, usize, FuncNo, bool) -> Result<(), NoMemo
     /// A block (12.1).
     #[cycle(statement)]
     #[tactic(auto, using(crate::proofs::Putting::appended))]
-    fn block(&self, page: &mut Page, body: &[Stmt]) -> Result<(), NoMemory>
+    fn block(&self, page: &mut Sheet, body: &[Stmt]) -> Result<(), NoMemory>
         requires { Writes self.now.funcs.now self.now.depth (F.pre self.now.function) (F.post self.now.function) }
         ensures { OnOk result (page.new ≡ put_all (spec.block (spec.shown (function_to self.now.depth self.now.funcs.now)) body.now) page.old) }
     {
@@ -558,7 +567,7 @@ impl<F: Fn(Global, &[Func], &mut Page, usize, FuncNo, bool) -> Result<(), NoMemo
     /// Statements, each of which ends its last line.
     #[cycle(statement)]
     #[tactic(auto, using(crate::proofs::Putting::appended))]
-    pub fn lines(&self, page: &mut Page, body: &[Stmt]) -> Result<(), NoMemory>
+    pub fn lines(&self, page: &mut Sheet, body: &[Stmt]) -> Result<(), NoMemory>
         requires { Writes self.now.funcs.now self.now.depth (F.pre self.now.function) (F.post self.now.function) }
         ensures { OnOk result (page.new ≡ put_all (spec.lines (spec.shown (function_to self.now.depth self.now.funcs.now)) body.now) page.old) }
     {
@@ -572,7 +581,7 @@ impl<F: Fn(Global, &[Func], &mut Page, usize, FuncNo, bool) -> Result<(), NoMemo
     /// The clauses of a `switch` in their braces (12.11).
     #[cycle(statement)]
     #[tactic(auto, using(crate::proofs::Putting::appended))]
-    fn clauses(&self, page: &mut Page, all: &[Case]) -> Result<(), NoMemory>
+    fn clauses(&self, page: &mut Sheet, all: &[Case]) -> Result<(), NoMemory>
         requires { Writes self.now.funcs.now self.now.depth (F.pre self.now.function) (F.post self.now.function) }
         ensures { OnOk result (page.new ≡ put_all (spec.clauses (spec.shown_case (function_to self.now.depth self.now.funcs.now)) all.now) page.old) }
     {
@@ -586,7 +595,7 @@ impl<F: Fn(Global, &[Func], &mut Page, usize, FuncNo, bool) -> Result<(), NoMemo
 
     #[cycle(statement)]
     #[tactic(auto, using(crate::proofs::Putting::appended))]
-    fn clause_list(&self, page: &mut Page, all: &[Case]) -> Result<(), NoMemory>
+    fn clause_list(&self, page: &mut Sheet, all: &[Case]) -> Result<(), NoMemory>
         requires { Writes self.now.funcs.now self.now.depth (F.pre self.now.function) (F.post self.now.function) }
         ensures { OnOk result (page.new ≡ put_all (flat_map (spec.shown_case (function_to self.now.depth self.now.funcs.now)) all.now) page.old) }
     {
@@ -598,7 +607,7 @@ impl<F: Fn(Global, &[Func], &mut Page, usize, FuncNo, bool) -> Result<(), NoMemo
 
     #[cycle(statement)]
     #[tactic(auto, using(crate::proofs::Putting::appended))]
-    fn clause(&self, page: &mut Page, c: &Case) -> Result<(), NoMemory>
+    fn clause(&self, page: &mut Sheet, c: &Case) -> Result<(), NoMemory>
         requires { Writes self.now.funcs.now self.now.depth (F.pre self.now.function) (F.post self.now.function) }
         ensures { OnOk result (page.new ≡ put_all (spec.shown_case (function_to self.now.depth self.now.funcs.now) c.now) page.old) }
     {
@@ -609,13 +618,13 @@ impl<F: Fn(Global, &[Func], &mut Page, usize, FuncNo, bool) -> Result<(), NoMemo
     }
 }
 
-impl<F: Fn(Global, &[Func], &mut Page, usize, FuncNo, bool) -> Result<(), NoMemory>> Printer<
+impl<F: Fn(Global, &[Func], &mut Sheet, usize, FuncNo, bool) -> Result<(), NoMemory>> Printer<
     '_,
     F,
 > {
     /// The statements of code, behind its directive.
     #[tactic(auto, using(crate::proofs::Putting::appended))]
-    pub fn code(&self, page: &mut Page, is_directive: bool, body: &[Stmt]) -> Result<(), NoMemory>
+    pub fn code(&self, page: &mut Sheet, is_directive: bool, body: &[Stmt]) -> Result<(), NoMemory>
         requires { Writes self.now.funcs.now self.now.depth (F.pre self.now.function) (F.post self.now.function) }
         ensures { OnOk result (page.new ≡ put_all (spec.code (function_to self.now.depth self.now.funcs.now) is_directive body.now) page.old) }
     {
@@ -625,7 +634,7 @@ impl<F: Fn(Global, &[Func], &mut Page, usize, FuncNo, bool) -> Result<(), NoMemo
 
     /// The body of a function (13).
     #[tactic(auto, using(crate::proofs::Putting::appended))]
-    fn body(&self, page: &mut Page, f: &Func) -> Result<(), NoMemory>
+    fn body(&self, page: &mut Sheet, f: &Func) -> Result<(), NoMemory>
         requires { Writes self.now.funcs.now self.now.depth (F.pre self.now.function) (F.post self.now.function) }
         ensures { OnOk result (page.new ≡ put_all (spec.body (function_to self.now.depth self.now.funcs.now) f.now) page.old) }
     {
@@ -640,18 +649,21 @@ impl<F: Fn(Global, &[Func], &mut Page, usize, FuncNo, bool) -> Result<(), NoMemo
 
     /// A function behind the word that begins it, with or without its name.
     #[tactic(auto, using(crate::proofs::Putting::appended))]
-    pub fn func(&self, page: &mut Page, f: &Func, named: bool) -> Result<(), NoMemory>
+    pub fn func(&self, page: &mut Sheet, f: &Func, named: bool) -> Result<(), NoMemory>
         requires { Writes self.now.funcs.now self.now.depth (F.pre self.now.function) (F.post self.now.function) }
-        ensures { OnOk result (page.new ≡ put_all (spec.func (function_to self.now.depth self.now.funcs.now) named f.now) page.old) }
+        ensures { OnOk result (page.new ≡ put_all (spec.func (function_to self.now.depth self.now.funcs.now) (bound_names named self.now.funcs.now f.now) named f.now) page.old) }
     {
         own_name(self.alloc, page, &f.name, named)?;
+        page.bind(self.alloc, self.funcs, f, named)?;
         parameters(self.alloc, page, f.params.as_slice())?;
-        self.body(page, f)
+        self.body(page, f)?;
+        page.release();
+        Ok(())
     }
 }
 
 /// `{ }`
-fn empty_switch(page: &mut Page) -> Result<(), NoMemory>
+fn empty_switch(page: &mut Sheet) -> Result<(), NoMemory>
     ensures { OnOk result (page.new ≡ put_all (spec.in_switch true []) page.old) }
 {
     page.word(b"{")?;

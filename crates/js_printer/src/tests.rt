@@ -11,43 +11,43 @@ use js_value::{
 use std::alloc::Global;
 use std::test::Fail;
 
-const START: Place = Place(0);
+pub const START: Place = Place(0);
 
-fn text(alloc: Global, s: &str) -> Result<Text, NoMemory> {
+pub fn text(alloc: Global, s: &str) -> Result<Text, NoMemory> {
     Text::from_str(alloc, s)
 }
 
-fn one<T: Drop>(alloc: Global, item: T) -> Result<Seq<T>, NoMemory> {
+pub fn one<T: Drop>(alloc: Global, item: T) -> Result<Seq<T>, NoMemory> {
     let mut all = Seq::new(alloc);
     all.push(item)?;
     Ok(all)
 }
 
-fn two<T: Drop>(alloc: Global, first: T, second: T) -> Result<Seq<T>, NoMemory> {
+pub fn two<T: Drop>(alloc: Global, first: T, second: T) -> Result<Seq<T>, NoMemory> {
     let mut all = one(alloc, first)?;
     all.push(second)?;
     Ok(all)
 }
 
-fn expr(alloc: Global, form: ExprForm) -> Result<Expr, NoMemory> {
+pub fn expr(alloc: Global, form: ExprForm) -> Result<Expr, NoMemory> {
     Ok(Expr {
         at: START,
         form: Box::new(alloc, form)?,
     })
 }
 
-fn stmt(alloc: Global, form: StmtForm) -> Result<Stmt, NoMemory> {
+pub fn stmt(alloc: Global, form: StmtForm) -> Result<Stmt, NoMemory> {
     Ok(Stmt {
         at: START,
         form: Box::new(alloc, form)?,
     })
 }
 
-fn name(alloc: Global, s: &str) -> Result<Expr, NoMemory> {
+pub fn name(alloc: Global, s: &str) -> Result<Expr, NoMemory> {
     expr(alloc, ExprForm::Name(text(alloc, s)?))
 }
 
-fn number(alloc: Global, n: i64) -> Result<Expr, NoMemory> {
+pub fn number(alloc: Global, n: i64) -> Result<Expr, NoMemory> {
     expr(alloc, ExprForm::Literal(Primitive::Number(n)))
 }
 
@@ -55,7 +55,7 @@ fn string(alloc: Global, s: &str) -> Result<Expr, NoMemory> {
     expr(alloc, ExprForm::Literal(Primitive::Text(text(alloc, s)?)))
 }
 
-fn binary(alloc: Global, op: BinaryOp, a: Expr, b: Expr) -> Result<Expr, NoMemory> {
+pub fn binary(alloc: Global, op: BinaryOp, a: Expr, b: Expr) -> Result<Expr, NoMemory> {
     expr(alloc, ExprForm::Binary(op, a, b))
 }
 
@@ -71,7 +71,7 @@ fn comma(alloc: Global, a: Expr, b: Expr) -> Result<Expr, NoMemory> {
     expr(alloc, ExprForm::Comma(a, b))
 }
 
-fn unary(alloc: Global, op: UnaryOp, a: Expr) -> Result<Expr, NoMemory> {
+pub fn unary(alloc: Global, op: UnaryOp, a: Expr) -> Result<Expr, NoMemory> {
     expr(alloc, ExprForm::Unary(op, a))
 }
 
@@ -79,7 +79,7 @@ fn step(alloc: Global, op: StepOp, a: Expr) -> Result<Expr, NoMemory> {
     expr(alloc, ExprForm::Step(op, a))
 }
 
-fn member(alloc: Global, object: Expr, key: &str) -> Result<Expr, NoMemory> {
+pub fn member(alloc: Global, object: Expr, key: &str) -> Result<Expr, NoMemory> {
     expr(alloc, ExprForm::Member(object, text(alloc, key)?))
 }
 
@@ -95,7 +95,7 @@ fn new(alloc: Global, callee: Expr, args: Seq<Expr>) -> Result<Expr, NoMemory> {
     expr(alloc, ExprForm::New(callee, args))
 }
 
-fn assign(alloc: Global, target: &str, value: Expr) -> Result<Expr, NoMemory> {
+pub fn assign(alloc: Global, target: &str, value: Expr) -> Result<Expr, NoMemory> {
     expr(alloc, ExprForm::Assign(name(alloc, target)?, None, value))
 }
 
@@ -112,7 +112,7 @@ fn first_function(alloc: Global) -> Result<Expr, NoMemory> {
 }
 
 /// A name as a statement.
-fn read(alloc: Global, s: &str) -> Result<Stmt, NoMemory> {
+pub fn read(alloc: Global, s: &str) -> Result<Stmt, NoMemory> {
     stmt(alloc, StmtForm::Eval(name(alloc, s)?))
 }
 
@@ -124,7 +124,7 @@ fn either(alloc: Global, a: Stmt, b: Option<Stmt>) -> Result<Stmt, NoMemory> {
     stmt(alloc, StmtForm::If(name(alloc, "a")?, a, b))
 }
 
-fn declared(alloc: Global, s: &str) -> Result<Name, NoMemory> {
+pub fn declared(alloc: Global, s: &str) -> Result<Name, NoMemory> {
     Ok(Name {
         at: START,
         text: text(alloc, s)?,
@@ -139,7 +139,7 @@ fn declarator(alloc: Global, s: &str, init: Option<Expr>) -> Result<Declarator, 
     })
 }
 
-fn func(name: Option<Name>, params: Seq<Name>, directive: bool, body: Seq<Stmt>) -> Func {
+pub fn func(name: Option<Name>, params: Seq<Name>, directive: bool, body: Seq<Stmt>) -> Func {
     Func {
         at: START,
         name,

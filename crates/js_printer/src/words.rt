@@ -2,41 +2,18 @@
 
 ghost use Rattle.std.specs.Prelude.{◌≡◌, ◌++◌, ◌∷◌, [], OnOk, true, false};
 ghost use Rattle.js_tree.specs.declared.expression.ExprForm.{out-ExprForm};
-ghost use Rattle.js_value.specs.Texts.{quoted};
 ghost use Rattle.js_tree.specs.Lexing as lexing;
-ghost use Rattle.js_printer.specs.Expressions as spec;
-ghost use Rattle.js_printer.specs.Pieces.{put_all, word};
+ghost use Rattle.script_text.specs.Expressions as spec;
+ghost use Rattle.js_printer.specs.Sheets.{put_all};
 
-use crate::page::{Gap, Page};
+use crate::sheet::Sheet;
 use js_tree::{ExprForm, LogicOp, StepOp};
-use js_value::{BinaryOp, Kind, NoMemory, Primitive, Text, UnaryOp, push_number};
+use js_value::{BinaryOp, Kind, NoMemory, Primitive, Text, UnaryOp};
+use script_text::Gap;
 use std::alloc::Global;
 
-/// A name (7.6).
-pub fn name(alloc: Global, page: &mut Page, units: &Text) -> Result<(), NoMemory>
-    ensures { OnOk result (page.new ≡ put_all (spec.name units.now) page.old) }
-{
-    let text = String::from_utf16_lossy(alloc, units.as_slice())?;
-    page.word(text.as_bytes())
-}
-
-/// A name that the parenthesis of parameters follows.
-pub fn called(alloc: Global, page: &mut Page, units: &Text) -> Result<(), NoMemory>
-    ensures { OnOk result (page.new ≡ put_all (spec.called (spec.utf8 units.now)) page.old) }
-{
-    let text = String::from_utf16_lossy(alloc, units.as_slice())?;
-    page.token(text.as_bytes(), false, Gap::Tight)
-}
-
-/// A string literal (7.8.4).
-pub fn string(alloc: Global, page: &mut Page, text: &Text) -> Result<(), NoMemory>
-    ensures { OnOk result (page.new ≡ put_all (word (quoted text.now)) page.old) }
-{
-    page.word(text.quoted(alloc)?.as_slice())
-}
-
 /// A literal (7.8).
-pub fn literal(alloc: Global, page: &mut Page, value: &Primitive) -> Result<(), NoMemory>
+pub fn literal(alloc: Global, page: &mut Sheet, value: &Primitive) -> Result<(), NoMemory>
     ensures { OnOk result (page.new ≡ put_all (spec.literal value.now) page.old) }
 {
     match value {
@@ -44,12 +21,8 @@ pub fn literal(alloc: Global, page: &mut Page, value: &Primitive) -> Result<(), 
         Primitive::Null => page.word(b"null"),
         Primitive::Boolean(true) => page.word(b"true"),
         Primitive::Boolean(false) => page.word(b"false"),
-        Primitive::Number(n) => {
-            let mut digits = Vec::new(alloc);
-            push_number(&mut digits, *n)?;
-            page.word(digits.as_slice())
-        }
-        Primitive::Text(text) => string(alloc, page, text),
+        Primitive::Number(n) => page.number(alloc, *n),
+        Primitive::Text(text) => page.quoted(alloc, text, Gap::Loose),
     }
 }
 
@@ -106,34 +79,29 @@ fn is_ascii_name(key: &[u16]) -> bool
     }
 }
 
-/// A key of a literal that its value follows (11.1.5).
-pub fn key(alloc: Global, page: &mut Page, key: &Text) -> Result<(), NoMemory>
-    ensures { OnOk result (page.new ≡ put_all (word (spec.key_text key.now)) page.old) }
+/// A key of a literal, and what may stand behind it (11.1.5).
+pub fn key(alloc: Global, page: &mut Sheet, key: &Text, behind: Gap) -> Result<(), NoMemory>
+    ensures { OnOk result (page.new ≡ put_all (spec.key_before behind key.now) page.old) }
 {
     if is_ascii_name(key.as_slice()) {
-        return name(alloc, page, key);
+        return page.named(alloc, key, behind);
     }
-    string(alloc, page, key)
-}
-
-/// A key of a literal that the parenthesis of an accessor follows (11.1.5).
-pub fn accessor_key(alloc: Global, page: &mut Page, key: &Text) -> Result<(), NoMemory>
-    ensures { OnOk result (page.new ≡ put_all (spec.called (spec.key_text key.now)) page.old) }
-{
-    if is_ascii_name(key.as_slice()) {
-        return called(alloc, page, key);
-    }
-    page.token(key.quoted(alloc)?.as_slice(), false, Gap::Tight)
+    page.quoted(alloc, key, behind)
 }
 
 /// The two literals of an input or of a host call.
-#[tactic(auto, unfolding(crate::specs::Expressions::two_literals))]
-pub fn two_literals(alloc: Global, page: &mut Page, kind: Kind, text: &Text) -> Result<(), NoMemory>
+#[tactic(auto, unfolding(script_text::specs::Expressions::two_literals))]
+pub fn two_literals(
+    alloc: Global,
+    page: &mut Sheet,
+    kind: Kind,
+    text: &Text,
+) -> Result<(), NoMemory>
     ensures { OnOk result (page.new ≡ put_all (spec.two_literals kind text.now) page.old) }
 {
     page.word(kind_text(kind))?;
     page.closing(b",")?;
-    string(alloc, page, text)
+    page.quoted(alloc, text, Gap::Loose)
 }
 
 fn kind_text(kind: Kind) -> &'static [u8]
@@ -216,7 +184,7 @@ pub fn logic_operator(op: LogicOp) -> &'static [u8]
 }
 
 /// An operator before its operand (11.4).
-pub fn unary_operator(page: &mut Page, op: UnaryOp) -> Result<(), NoMemory>
+pub fn unary_operator(page: &mut Sheet, op: UnaryOp) -> Result<(), NoMemory>
     ensures { OnOk result (page.new ≡ put_all (spec.unary_operator op) page.old) }
 {
     match op {

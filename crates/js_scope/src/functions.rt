@@ -88,8 +88,14 @@ fn push_functions(
     Ok(())
 }
 
-/// The names that a function declares: its parameters, and those that its body hoists (10.5).
-fn declared(alloc: Global, f: &Func, behind: &[Func], first: usize) -> Result<Seq<Text>, NoMemory>
+/// The names that a function declares: its parameters, and those that its body hoists (10.5). Functions with the number `first`
+/// and greater ones are given.
+pub fn declared(
+    alloc: Global,
+    f: &Func,
+    behind: &[Func],
+    first: usize,
+) -> Result<Seq<Text>, NoMemory>
     ensures { IfOk result (λ names. names ≡ functions.declared first behind.now f.now) }
 {
     let mut names = Seq::new(alloc);

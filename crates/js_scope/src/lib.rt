@@ -16,4 +16,5 @@ mod walk;
 
 pub use early::check;
 pub use free::free_names;
+pub use functions::declared;
 pub use hoisting::{HoistedNames, hoisted};

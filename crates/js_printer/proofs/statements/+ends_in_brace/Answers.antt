@@ -1,6 +1,6 @@
 use Rattle.std.proofs.Common.{ap, sym, ◌∙◌}
 use Rattle.js_tree.specs.declared.statement.StmtForm.TheVariants as s
-use Rattle.js_printer.specs.Statements.{Shown, shown_form}
+use Rattle.script_text.specs.Statements.{Shown, shown_form}
 use Rattle.js_printer.proofs.StatementForms.{shown-form, ends-If, ends-Else, ends-While, ends-For, ends-ForIn}
 use Rattle.js_printer.proofs.statements.+ends_in_brace.Goals as goal
 

@@ -1,6 +1,7 @@
 use Rattle.std.proofs.Common.{◌≡◌, take}
-use Rattle.js_printer.specs.Pieces.{put_all, behind_commas}
-use Rattle.js_printer.specs.Statements.{parameter}
+use Rattle.script_text.specs.Pieces.{behind_commas}
+use Rattle.js_printer.specs.Sheets.{put_all}
+use Rattle.script_text.specs.Statements.{parameter}
 use Rattle.js_printer.proofs.statements.names.Given as goal
 
 abbrev pub invariant-loop-x : goal.invariant-loop-x

@@ -1,5 +1,5 @@
 use Rattle.std.proofs.Common.{◌≡◌, take, true}
-use Rattle.js_printer.specs.Expressions.{are_ascii_parts}
+use Rattle.script_text.specs.Expressions.{are_ascii_parts}
 use Rattle.js_printer.proofs.words.are_ascii_parts.Given as goal
 
 abbrev pub invariant-loop-u : goal.invariant-loop-u

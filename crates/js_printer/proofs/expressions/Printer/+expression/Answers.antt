@@ -1,12 +1,13 @@
 use Rattle.std.proofs.Common.{◌≡◌, ◌-◌, take, drop, length, refl, ap, sym, ◌∙◌}
 use Rattle.std.specs.Prelude.{codes}
-use Rattle.js_printer.specs.Pieces.{Piece, put_all, closing, behind_commas, separated}
-use Rattle.js_printer.specs.Expressions.{argument, printed_field, element, printed, last_comma, ends_in_elision}
+use Rattle.script_text.specs.Pieces.{Piece, closing, behind_commas, separated}
+use Rattle.js_printer.specs.Sheets.{put_all}
+use Rattle.script_text.specs.Expressions.{argument, printed_field, element, printed, last_comma, ends_in_elision}
 use Rattle.std.specs.Option.{option_map}
 use Rattle.std.specs.Prelude.{List, Option}
 use Rattle.js_tree.specs.declared.expression.Expr.{Expr}
 use Rattle.js_printer.proofs.expressions.Printer.+expression.Goals.{elements-in_default, elements-in-len1-up+else-loop-e-test, elements-in-Some+in_ok-expr, elements-in_default-first, elements-in-Some-e+in_ok-expr-2, elements-in_default-e}
-use Rattle.js_printer.specs.Printing.{function_to}
+use Rattle.script_text.specs.Printing.{function_to}
 use Rattle.js_printer.proofs.Putting.{on_ok_along, commas-push, separated-whole, separated-none, put_all-append}
 use Rattle.js_printer.proofs.Forms.{put-This, put-Name, put-Literal, put-ArrayLit, put-ObjectLit, put-Func, put-Member, put-Index, put-Call, put-New, put-Unary, put-Binary, put-Logic, put-Conditional, put-Assign, put-Step, put-Comma, put-Input, put-HostCall}
 use Rattle.js_printer.proofs.expressions.Printer.+expression.Goals as goal
@@ -19,7 +20,7 @@ form-returns-in-This g t c =
 pub form-returns-in-Name : goal.form-returns-in-Name
 form-returns-in-Name g t c =
     let w = c.in-Name in
-    on_ok_along c.name.result _ _ _ c.name.ensures (rw (w.is, put-Name (function_to c.args.self.now.depth c.args.self.now.funcs.now) c.args.allows_in w.units c.args.page.now) refl)
+    on_ok_along c.reference.result _ _ _ c.reference.ensures (rw (w.is, put-Name (function_to c.args.self.now.depth c.args.self.now.funcs.now) c.args.allows_in w.units c.args.page.now) refl)
 
 pub form-returns-in-Literal : goal.form-returns-in-Literal
 form-returns-in-Literal g t c =
@@ -44,7 +45,7 @@ form-returns-in_ok-word-in-Func g t c =
 pub form-returns-in_ok-inner-in-Member : goal.form-returns-in_ok-inner-in-Member
 form-returns-in_ok-inner-in-Member g t c =
     let w = c.in-Member in
-    on_ok_along c.name-in-Member.result _ _ _ c.name-in-Member.ensures (rw (w.is, put-Member (function_to c.args.self.now.depth c.args.self.now.funcs.now) c.args.allows_in w.object w.key c.args.page.now, c.in_ok-inner-in-Member.ensures, c.in_ok-object-in-Member.ensures) refl)
+    on_ok_along c.named.result _ _ _ c.named.ensures (rw (w.is, put-Member (function_to c.args.self.now.depth c.args.self.now.funcs.now) c.args.allows_in w.object w.key c.args.page.now, c.in_ok-inner-in-Member.ensures, c.in_ok-object-in-Member.ensures) refl)
 
 pub form-returns-in_ok-expr-in-Index : goal.form-returns-in_ok-expr-in-Index
 form-returns-in_ok-expr-in-Index g t c =

@@ -1,8 +1,9 @@
 use Rattle.std.proofs.Common.{◌≡◌, take}
 use Rattle.std.specs.Option.{option_map}
-use Rattle.js_printer.specs.Pieces.{put_all, behind_commas}
-use Rattle.js_printer.specs.Printing.{function_to}
-use Rattle.js_printer.specs.Expressions.{printed, printed_field, argument, element}
+use Rattle.script_text.specs.Pieces.{behind_commas}
+use Rattle.js_printer.specs.Sheets.{put_all}
+use Rattle.script_text.specs.Printing.{function_to}
+use Rattle.script_text.specs.Expressions.{printed, printed_field, argument, element}
 use Rattle.js_printer.proofs.expressions.Printer.+expression.Given as goal
 
 abbrev pub invariant-values_behind-loop-e : goal.invariant-values_behind-loop-e

@@ -1,9 +1,10 @@
 use Rattle.std.proofs.Common.{refl, ap, sym, ◌∙◌}
 use Rattle.std.specs.Prelude.{None, Some}
 use Rattle.js_tree.specs.declared.statement.StmtForm.TheVariants as s
-use Rattle.js_printer.specs.Pieces.{put_all, LineEnd, put}
-use Rattle.js_printer.specs.Printing.{function_to}
-use Rattle.js_printer.specs.Statements.{shown, shown_case, shown_form, lines}
+use Rattle.script_text.specs.Pieces.{LineEnd}
+use Rattle.js_printer.specs.Sheets.{put_all, put}
+use Rattle.script_text.specs.Printing.{function_to}
+use Rattle.script_text.specs.Statements.{shown, shown_case, shown_form, lines}
 use Rattle.std.specs.List.{flat_map}
 use Rattle.std.proofs.lemmas.List.{take_all}
 use Rattle.js_printer.proofs.Putting.{on_ok_along}
@@ -114,7 +115,7 @@ clause-returns g t c =
 pub handler-returns : goal.handler-returns
 handler-returns g t c =
     let F = function_to c.args.self.now.depth c.args.self.now.funcs.now in
-    on_ok_along c.block.result _ _ _ c.block.ensures (rw (put-Catch F c.args.handler.now c.args.page.now, c.in_ok-catch_head.ensures, c.as_slice.ensures) refl)
+    c.release.ensures ∙ rw (put-Catch F c.args.handler.now c.args.page.now, c.in_ok-block.ensures, c.in_ok-bind_name.ensures, c.in_ok-catch_head.ensures, c.as_slice.ensures) refl
 
 pub last-returns : goal.last-returns
 last-returns g t c =

@@ -1,8 +1,8 @@
 use Rattle.std.proofs.Common.{◌≡◌, take}
 use Rattle.std.specs.List.{flat_map}
-use Rattle.js_printer.specs.Pieces.{put_all}
-use Rattle.js_printer.specs.Printing.{function_to}
-use Rattle.js_printer.specs.Statements.{lines, shown, shown_case}
+use Rattle.js_printer.specs.Sheets.{put_all}
+use Rattle.script_text.specs.Printing.{function_to}
+use Rattle.script_text.specs.Statements.{lines, shown, shown_case}
 use Rattle.js_printer.proofs.expressions.Printer.+statement.Given as goal
 
 abbrev pub invariant-lines-loop-s : goal.invariant-lines-loop-s

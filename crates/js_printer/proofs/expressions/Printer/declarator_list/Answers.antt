@@ -1,8 +1,9 @@
 use Rattle.std.proofs.Common.{ap, ◌∙◌, sym, take, drop, length, ◌-◌}
 use Rattle.std.specs.Prelude.{codes}
-use Rattle.js_printer.specs.Pieces.{put_all, behind_commas, closing}
-use Rattle.js_printer.specs.Printing.{function_to}
-use Rattle.js_printer.specs.Statements.{declarator}
+use Rattle.script_text.specs.Pieces.{behind_commas, closing}
+use Rattle.js_printer.specs.Sheets.{put_all}
+use Rattle.script_text.specs.Printing.{function_to}
+use Rattle.script_text.specs.Statements.{declarator}
 use Rattle.js_printer.proofs.Putting.{separated-whole, commas-push}
 use Rattle.js_printer.proofs.expressions.Printer.declarator_list.Goals as goal
 

@@ -1,7 +1,8 @@
 use Rattle.std.proofs.Common.{◌≡◌, take}
-use Rattle.js_printer.specs.Pieces.{put_all, behind_commas}
-use Rattle.js_printer.specs.Printing.{function_to}
-use Rattle.js_printer.specs.Statements.{declarator}
+use Rattle.script_text.specs.Pieces.{behind_commas}
+use Rattle.js_printer.specs.Sheets.{put_all}
+use Rattle.script_text.specs.Printing.{function_to}
+use Rattle.script_text.specs.Statements.{declarator}
 use Rattle.js_printer.proofs.expressions.Printer.declarator_list.Given as goal
 
 abbrev pub invariant-loop-d : goal.invariant-loop-d

@@ -1,6 +1,6 @@
 -- Cases of printing, worked out by hand: each expression or statement stands beside its text.
-use Rattle.std.specs.Prelude.{◌≡◌, ◌++◌, ℕ, pos, codes, Bool, true, false, List, [], ◌∷◌, map, Option, Some, None}
 use Rattle.std.specs.Fmt.{signed_decimal}
+use Rattle.std.specs.Prelude.{◌≡◌, ◌++◌, ℕ, pos, codes, Bool, true, false, List, [], ◌∷◌, map, Option, Some, None}
 use Rattle.js_value.specs.declared.operator.BinaryOp.TheVariants as binary
 use Rattle.js_value.specs.declared.operator.UnaryOp.TheVariants as unary
 use Rattle.js_value.specs.declared.place.FuncNo.{FuncNo}
@@ -14,13 +14,13 @@ use Rattle.js_tree.specs.declared.statement.Declarator.{Declarator}
 use Rattle.js_tree.specs.declared.statement.ForStart.TheVariants as start
 use Rattle.js_tree.specs.declared.statement.ForTarget.TheVariants as target
 use Rattle.js_tree.specs.declared.statement.StmtForm.TheOpen.{StmtForm-F, Case-F, Catch-F, Finally-F}
-use Rattle.js_printer.specs.Statements.{Shown}
-use Rattle.js_printer.specs.Statements as statements
+use Rattle.script_text.specs.Statements.{Shown}
+use Rattle.script_text.specs.Statements as statements
 use Rattle.js_tree.specs.declared.expression.ExprForm.TheOpen.{ExprForm-F}
 use Rattle.js_tree.specs.declared.expression.LogicOp.TheVariants as logic
 use Rattle.js_tree.specs.declared.expression.StepOp.TheVariants as step
-use Rattle.js_printer.specs.Pieces.{Piece, text_of, word, opening, closing, inner}
-use Rattle.js_printer.specs.Expressions.{Printed, of_form, if_grouped, at, index, name}
+use Rattle.script_text.specs.Pieces.{Piece, Number, text_of, opening, closing, inner}
+use Rattle.script_text.specs.Expressions.{Printed, of_form, if_grouped, at, index, name}
 
 -- every function has no parameters and an empty body
 abbrev pub function : Bool → FuncNo → List Piece
@@ -240,13 +240,13 @@ statement_forms =
 abbrev pub one : Printed
 one = x (ExprForm-F.Literal (primitive.Number (pos 1)))
 
-abbrev pub digits : List ℕ
-digits = signed_decimal (pos 1)
+abbrev pub digits : List Piece
+digits = Number (pos 1) ∷ []
 
 pub record PrintCases : Type 0 where
   pub number_grouped :
-      (x (ExprForm-F.Member one (codes "a"))).pieces true ≡ opening (codes "(") ++ word digits ++ closing (codes ")") ++ inner (codes ".") ++ name (codes "a")
-  pub number_bare : (x (ExprForm-F.Index one a)).pieces true ≡ word digits ++ index a
+      (x (ExprForm-F.Member one (codes "a"))).pieces true ≡ opening (codes "(") ++ digits ++ closing (codes ")") ++ inner (codes ".") ++ name (codes "a")
+  pub number_bare : (x (ExprForm-F.Index one a)).pieces true ≡ digits ++ index a
   pub operators_printed : ArePrinted operators
   pub loose_printed : ArePrinted loose_forms
   pub prefixes_printed : ArePrinted prefixes

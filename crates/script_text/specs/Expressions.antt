@@ -2,10 +2,6 @@
 use Rattle.std.specs.Prelude.{ℕ, ◌+◌, ◌-◌, ◌&&◌, ◌||◌, Bool, true, false, not, if◌then◌else◌, nat_lt, List, [], ◌∷◌, ◌++◌, length, slice_get, codes, Option, Some, None}
 use Rattle.std.specs.List.{list_all}
 use Rattle.std.specs.Option.{option_map}
-use Rattle.std.specs.Str.{encode_utf8_all}
-use Rattle.std.specs.Char.Utf16.{utf16_lossy_chars}
-use Rattle.std.specs.Fmt.{signed_decimal}
-use Rattle.js_value.specs.Texts.{quoted}
 use Rattle.js_value.specs.declared.place.FuncNo.{FuncNo}
 use Rattle.js_value.specs.declared.primitive.Kind.{Kind}
 use Rattle.js_value.specs.declared.primitive.Kind.TheVariants as kind
@@ -24,23 +20,27 @@ use Rattle.js_tree.specs.declared.expression.Expr.{Expr, fold-Expr}
 use Rattle.js_tree.specs.declared.expression.Field.{Field, fold-Field}
 use Rattle.js_tree.specs.declared.expression.ExprForm.{ExprForm, fold-ExprForm}
 use Rattle.js_tree.specs.declared.expression.ExprForm.TheOpen.{ExprForm-F, Field-F}
-use Rattle.js_printer.specs.declared.page.Gap.TheVariants.{Tight}
-use Rattle.js_printer.specs.Pieces.{Piece, Token, word, closing, opening, inner, prefix, behind_commas, separated}
+use Rattle.script_text.specs.declared.gap.Gap.{Gap}
+use Rattle.script_text.specs.declared.gap.Gap.TheVariants.{Tight, Loose}
+use Rattle.script_text.specs.Pieces.{Piece, Reference, Named, Quoted, Number, word, closing, opening, inner, prefix, behind_commas, separated}
 
 -- ---- names, keys and literals (7.6, 7.8)
 
-abbrev pub utf8 : List ℕ → List ℕ
-utf8 units = encode_utf8_all (utf16_lossy_chars units)
-
 abbrev pub name : List ℕ → List Piece
-name units = word (utf8 units)
+name units = Named units Loose ∷ []
+
+abbrev pub reference : List ℕ → List Piece
+reference units = Reference units ∷ []
+
+abbrev pub string : List ℕ → List Piece
+string units = Quoted units Loose ∷ []
 
 abbrev pub literal : Primitive → List Piece
 literal primitive.Undefined = word (codes "undefined")
 literal primitive.Null = word (codes "null")
 literal (primitive.Boolean b) = word (if b then codes "true" else codes "false")
-literal (primitive.Number n) = word (signed_decimal n)
-literal (primitive.Text units) = word (quoted units)
+literal (primitive.Number n) = Number n ∷ []
+literal (primitive.Text units) = string units
 
 -- an identifier name of ASCII alone
 abbrev pub is_ascii_start : ℕ → Bool
@@ -57,12 +57,12 @@ is_ascii_name [] = false
 is_ascii_name (u ∷ us) = is_ascii_start u && are_ascii_parts us
 
 -- a key of a literal is written as an identifier name where it is one of ASCII, else as a string
-abbrev pub key_text : List ℕ → List ℕ
-key_text key = if is_ascii_name key then utf8 key else quoted key
+abbrev pub key_before : Gap → List ℕ → List Piece
+key_before behind key = if is_ascii_name key then Named key behind ∷ [] else Quoted key behind ∷ []
 
--- a name or a key that the parenthesis of parameters follows
+-- a name that the parenthesis of parameters follows
 abbrev pub called : List ℕ → List Piece
-called text = Token text false Tight ∷ []
+called units = Named units Tight ∷ []
 
 -- ---- operators
 
@@ -274,7 +274,7 @@ kind_text kind.Text = codes "\"string\""
 
 -- the two literals of an input or of a host call
 unfoldable pub two_literals : Kind → List ℕ → List Piece
-two_literals kind text = word (kind_text kind) ++ closing (codes ",") ++ word (quoted text)
+two_literals kind text = word (kind_text kind) ++ closing (codes ",") ++ string text
 
 abbrev pub input : Kind → List ℕ → List Piece
 input kind text = word (codes "__abstract") ++ inner (codes "(") ++ two_literals kind text ++ closing (codes ")")
@@ -291,13 +291,13 @@ host_call kind text args = host_call_start kind text ++ args ++ closing (codes "
 module _ (function : Bool → FuncNo → List Piece) where
   -- 11.1.5
   abbrev pub of_field : Field-F Printed (List Piece) Printed → List Piece
-  of_field (Field-F.Value at key x) = word (key_text key) ++ closing (codes ":") ++ value x
-  of_field (Field-F.Getter at key f) = word (codes "get") ++ called (key_text key) ++ function false f
-  of_field (Field-F.Setter at key f) = word (codes "set") ++ called (key_text key) ++ function false f
+  of_field (Field-F.Value at key x) = key_before Loose key ++ closing (codes ":") ++ value x
+  of_field (Field-F.Getter at key f) = word (codes "get") ++ key_before Tight key ++ function false f
+  of_field (Field-F.Setter at key f) = word (codes "set") ++ key_before Tight key ++ function false f
 
   abbrev pub pieces : ExprForm-F Printed (List Piece) Printed → Bool → List Piece
   pieces ExprForm-F.This allows_in = word (codes "this")
-  pieces (ExprForm-F.Name units) allows_in = name units
+  pieces (ExprForm-F.Name units) allows_in = reference units
   pieces (ExprForm-F.Literal value) allows_in = literal value
   pieces (ExprForm-F.ArrayLit items) allows_in =
       opening (codes "[") ++ separated element items ++ last_comma (ends_in_elision items) ++ closing (codes "]")

@@ -1,8 +1,12 @@
 -- Tokens with how they stand beside others, and the text that they make.
-use Rattle.std.specs.Prelude.{ℕ, ◌+◌, ◌-◌, ◌*◌, ◌||◌, ◌==◌, Bool, true, false, if◌then◌else◌, List, [], ◌∷◌, ◌++◌, replicate, slice_index, codes}
+use Rattle.std.specs.Prelude.{ℕ, ℤ, ◌+◌, ◌-◌, ◌*◌, ◌||◌, ◌==◌, Bool, true, false, if◌then◌else◌, List, [], ◌∷◌, ◌++◌, replicate, slice_index, codes}
 use Rattle.std.specs.List.{flat_map}
-use Rattle.js_printer.specs.declared.page.Gap.{Gap}
-use Rattle.js_printer.specs.declared.page.Gap.TheVariants.{Start, Tight, Sign, Loose}
+use Rattle.std.specs.Str.{encode_utf8_all}
+use Rattle.std.specs.Char.Utf16.{utf16_lossy_chars}
+use Rattle.std.specs.Fmt.{signed_decimal}
+use Rattle.js_value.specs.Texts.{quoted}
+use Rattle.script_text.specs.declared.gap.Gap.{Gap}
+use Rattle.script_text.specs.declared.gap.Gap.TheVariants.{Start, Tight, Sign, Loose}
 
 pub data Piece : Type 0 where
   -- the text of a token, whether no space stands before it, and what may stand behind it
@@ -11,12 +15,26 @@ pub data Piece : Type 0 where
   -- one more level of indentation, and one less
   Open : Piece
   Close : Piece
+  -- a name that is read or assigned to
+  Reference : List ℕ → Piece
+  -- a name that is declared, or an identifier name of a property, and what may stand behind it
+  Named : List ℕ → Gap → Piece
+  -- a string with these units, and what may stand behind it
+  Quoted : List ℕ → Gap → Piece
+  Number : ℤ → Piece
+  -- here code begins that binds these names, and here the code that was begun last ends; no text has them
+  Bind : List (List ℕ) → Piece
+  Release : Piece
 
 -- what was written so far, what may stand before the next token, and how deep lines are indented
 pub record Page : Type 0 where
   pub bytes : List ℕ
   pub gap : Gap
   pub depth : ℕ
+
+-- identifiers are written in UTF-8
+abbrev pub utf8 : List ℕ → List ℕ
+utf8 units = encode_utf8_all (utf16_lossy_chars units)
 
 -- 43 is `+` and 45 is `-`
 abbrev pub begins_with_sign : List ℕ → Bool
@@ -30,11 +48,20 @@ between Tight is_tight depth text = []
 between Sign is_tight depth text = if begins_with_sign text then codes " " else []
 between Loose is_tight depth text = if is_tight then [] else codes " "
 
+abbrev pub put_token : Page → List ℕ → Bool → Gap → Page
+put_token p text is_tight behind = record p { bytes = p.bytes ++ between p.gap is_tight p.depth text ++ text; gap = behind }
+
 unfoldable pub put : Page → Piece → Page
-put p (Token text is_tight behind) = record p { bytes = p.bytes ++ between p.gap is_tight p.depth text ++ text; gap = behind }
+put p (Token text is_tight behind) = put_token p text is_tight behind
 put p LineEnd = record p { bytes = p.bytes ++ codes "\n"; gap = Start }
 put p Open = record p { depth = p.depth + 1 }
 put p Close = record p { depth = p.depth - 1 }
+put p (Reference name) = put_token p (utf8 name) false Loose
+put p (Named name behind) = put_token p (utf8 name) false behind
+put p (Quoted text behind) = put_token p (quoted text) false behind
+put p (Number n) = put_token p (signed_decimal n) false Loose
+put p (Bind names) = p
+put p Release = p
 
 abbrev pub put_all : List Piece → Page → Page
 put_all [] p = p

@@ -15,9 +15,10 @@ use Rattle.js_tree.specs.declared.statement.Catch.{Catch, fold-Catch}
 use Rattle.js_tree.specs.declared.statement.Finally.{Finally, fold-Finally}
 use Rattle.js_tree.specs.declared.statement.Stmt.{Stmt, fold-Stmt}
 use Rattle.js_tree.specs.declared.statement.StmtForm.{StmtForm, fold-StmtForm}
+use Rattle.js_tree.specs.Mentions.{Names}
 use Rattle.js_tree.specs.declared.statement.StmtForm.TheOpen.{StmtForm-F, Case-F, Catch-F, Finally-F}
-use Rattle.js_printer.specs.Pieces.{Piece, LineEnd, Open, Close, word, closing, opening, separated}
-use Rattle.js_printer.specs.Expressions.{expr, maybe_expr, printed, if_grouped, name, called, utf8}
+use Rattle.script_text.specs.Pieces.{Piece, LineEnd, Open, Close, Bind, Release, word, closing, opening, separated}
+use Rattle.script_text.specs.Expressions.{expr, maybe_expr, printed, if_grouped, name, called}
 
 -- a statement without the end of its last line
 pub record Shown : Type 0 where
@@ -97,6 +98,10 @@ clause label statements = clause_start label ++ statements ++ Close ∷ []
 abbrev pub for_word : List Piece
 for_word = word (codes "for") ++ opening (codes "(")
 
+-- code that binds these names
+abbrev pub binding : Names → List Piece → List Piece
+binding names inside = Bind names ∷ inside ++ Release ∷ []
+
 -- 12.14
 unfoldable pub catch_head : List ℕ → List Piece
 catch_head text = word (codes "catch") ++ opening (codes "(") ++ name text ++ closing (codes ")")
@@ -111,7 +116,7 @@ parameters ps = opening (codes "(") ++ separated parameter ps ++ closing (codes 
 -- the name is left out where it isn't wanted
 abbrev pub own_name : Bool → Option Name → List Piece
 own_name named None = []
-own_name named (Some n) = elim named [ true ↦ called (utf8 n.text) | false ↦ [] ]
+own_name named (Some n) = elim named [ true ↦ called n.text | false ↦ [] ]
 
 -- ---- the forms (12)
 
@@ -198,7 +203,7 @@ module _ (function : Bool → FuncNo → List Piece) where
 
   -- 12.14
   abbrev pub of_catch : Catch-F Shown (List Piece) (List Piece) (List Piece) Shown → List Piece
-  of_catch c = catch_head c.name ++ block (λ s. s) c.body
+  of_catch c = catch_head c.name ++ binding (c.name ∷ []) (block (λ s. s) c.body)
 
   abbrev pub of_finally : Finally-F Shown (List Piece) (List Piece) (List Piece) Shown → List Piece
   of_finally f = word (codes "finally") ++ block (λ s. s) f.body
@@ -227,6 +232,6 @@ module _ (function : Bool → FuncNo → List Piece) where
   abbrev pub body : Func → List Piece
   body f = in_braces (is_empty f.body && not f.directive) (code f.directive f.body)
 
-  -- a function behind the word that begins it
-  abbrev pub func : Bool → Func → List Piece
-  func named f = own_name named f.name ++ parameters f.params ++ body f
+  -- a function behind the word that begins it, by the names that it binds
+  abbrev pub func : Names → Bool → Func → List Piece
+  func names named f = own_name named f.name ++ binding names (parameters f.params ++ body f)

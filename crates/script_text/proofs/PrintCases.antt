@@ -6,10 +6,10 @@ use Rattle.js_value.specs.Texts.{quoted_unit}
 use Rattle.js_tree.specs.declared.expression.ExprForm.TheFolds.{fold_out-ExprForm, fold_out-Expr}
 use Rattle.js_tree.specs.declared.expression.ExprForm.TheOpen.{ExprForm-F}
 use Rattle.js_tree.specs.declared.expression.ExprForm.TheVariants as e
-use Rattle.js_printer.specs.Expressions.{Printed, tokens, printed, of_form, of_field, index, branch, two_literals, host_call}
-use Rattle.js_printer.specs.Statements.{head, else_word, end_of_do, for_head, for_rest, for_in_head, in_rest, catch_head}
-use Rattle.js_printer.specs.Pieces.{Piece, text_of, put}
-use Rattle.js_printer.specs.PrintCases.{PrintCases, ArePrinted, operators, loose_forms, prefixes, members, literals, beginnings, headers, header, statement_forms, function, d, x}
+use Rattle.script_text.specs.Expressions.{Printed, tokens, printed, of_form, of_field, index, branch, two_literals, host_call}
+use Rattle.script_text.specs.Statements.{head, else_word, end_of_do, for_head, for_rest, for_in_head, in_rest, catch_head}
+use Rattle.script_text.specs.Pieces.{Piece, text_of, put}
+use Rattle.script_text.specs.PrintCases.{PrintCases, ArePrinted, operators, loose_forms, prefixes, members, literals, beginnings, headers, header, statement_forms, function, d, x}
 
 operators_print : ArePrinted operators
 unfolding tokens put utf16_chars lib.Utf8.encode

@@ -1,0 +1,17 @@
+pub mod Ascii
+pub mod Characters
+pub mod Scanning
+pub mod Marks
+pub mod Names
+pub mod Numbers
+pub mod Strings
+pub mod Written
+pub mod Spots
+pub mod Known
+pub mod Single
+pub mod Parts
+pub mod Expressions
+pub mod StatementParts
+pub mod Statements
+pub mod Functions
+pub mod Law

@@ -1,0 +1,262 @@
+-- Functions with those inside them, to a depth.
+use Rattle.std.proofs.Common.{◌≡◌, ◌≤◌, ℕ, zero, suc, ◌+◌, Bool, true, false, cond, List, [], ◌∷◌, ◌++◌, length, refl, ap, sym, ◌∙◌, subst, arith, append-nil}
+use Rattle.std.specs.Prelude.{◌==◌, codes, slice_get, Option, Some, None, is_some, is_none}
+use Rattle.std.specs.List.{list_all}
+use Rattle.std.specs.Option.{option_map}
+use Rattle.std.proofs.lemmas.Bool.Decides.{nat_tests}
+use Rattle.js_value.specs.declared.place.FuncNo.{FuncNo}
+use Rattle.js_value.specs.declared.place.Place.{Place}
+use Rattle.js_tree.specs.Lexing.{reserved_word}
+use Rattle.js_tree.specs.Mentions.{Names}
+use Rattle.js_tree.specs.declared.statement.Func.{Func}
+use Rattle.js_tree.specs.declared.statement.Name.{Name}
+use Rattle.js_grammar.specs.FunctionOrder.{Numbers, in_body}
+use Rattle.js_grammar.specs.Functions as F
+use Rattle.js_grammar.specs.Marks
+use Rattle.js_grammar.specs.Readable as readable
+use Rattle.js_grammar.specs.ReadableExpressions.{is_accessor}
+use Rattle.js_grammar.specs.ReadableWords.{is_identifier}
+use Rattle.js_grammar.specs.Reading.{grammar}
+use Rattle.js_grammar.specs.Rest.{Reading, ◌>>=◌, give, sees, numbered}
+use Rattle.script_text.specs.Pieces.{Piece, word, closing, separated}
+use Rattle.script_text.specs.Printing.{function_to, found, bound_names}
+use Rattle.script_text.specs.Statements.{func, own_name, parameter}
+use Rattle.script_text.specs.Tokens.{Shape, shape, form_of, name_form, tokens_from}
+use Rattle.reading_back.specs.Claims.{World, Frame, Spot, rest_of, Leads, Ready, Read, anything, Flows, IsNumber, FunctionsRead}
+use Rattle.reading_back.specs.Unplaced as unplaced
+use Rattle.reading_back.proofs.Flowing.{flows_last}
+use Rattle.reading_back.proofs.FunctionBodies.{ElementsRead, elements_of, function_lead, flows_func, behind_name}
+use Rattle.reading_back.proofs.FunctionElements.{bounds}
+use Rattle.reading_back.proofs.FunctionNames.{AreNames, is_declared, name_lead, parameters_lead, no_parameter_lead, one_parameter_lead}
+use Rattle.reading_back.proofs.FunctionNumbers.{Begins, begins, reading, IsFunc, numbered_lead}
+use Rattle.reading_back.proofs.Readability.{both, not_true}
+use Rattle.reading_back.proofs.Steps.{after, from, on, bind, expected}
+
+abbrev pub world : List Func → ℕ → World
+world functions k = record { functions = functions; least = k }
+
+-- what it says of a function that it is readable
+record IsReadable (functions : List Func) (g : Func) : Type 0 where
+  plain : g.directive ≡ false
+  named : readable.is_name_or_none functions g.name ≡ true
+  params : list_all (λ (p : Name). is_identifier p.text) g.params ≡ true
+  body : readable.are_elements functions g.body ≡ true
+
+is_readable : (functions : List Func) (g : Func) → readable.is_function functions g ≡ true → IsReadable functions g
+is_readable functions g e =
+    let a = both _ _ e in
+    let b = both _ _ a.0 in
+    let c = both _ _ b.0 in
+    record { plain = not_true g.directive c.0; named = c.1; params = b.1; body = a.1 }
+
+function_word_is : Marks.function_word (form_of (codes "function")) ≡ Some tt
+unfolding form_of reserved_word
+function_word_is = refl
+
+no_name : is_some (Marks.identifier (form_of (codes "("))) ≡ false
+unfolding form_of reserved_word
+no_name = refl
+
+-- a function with its name, or with none
+abbrev by_name : Place → Bool → Reading FuncNo
+by_name at named = numbered at (cond named (F.declared_name >>= λ name. F.function_behind grammar at (Some name) F.parameters) (F.function_behind grammar at None F.parameters))
+
+module _ (functions : List Func) (k : ℕ) (function : Bool → FuncNo → List Piece) (reads : ElementsRead (world functions (k + 1)) function) where
+  abbrev bound_of : (g : Func) → IsReadable functions g → ℕ
+  bound_of g r = bounds (elements_of function reads g.body r.body).xs + 1
+
+  -- a bound for all functions
+  record Bounded (gs : List Func) : Type 0 where
+    total : ℕ
+    each : (n : ℕ) (g : Func) → slice_get gs n ≡ Some g → (r : IsReadable functions g) × (bound_of g r ≤ total)
+
+  bounded : (gs : List Func) → list_all (readable.is_function functions) gs ≡ true → Bounded gs
+  bounded [] e = record { total = 0; each = λ n g there. absurd (cc) }
+  bounded (f ∷ gs) e =
+      let p = both _ _ e in
+      let r = is_readable functions f p.0 in
+      let rest = bounded gs p.1 in
+      record { total = bound_of f r + rest.total; each = λ n g there. at n g there r rest }
+    where
+      at : (n : ℕ) (g : Func) → slice_get (f ∷ gs) n ≡ Some g → (r : IsReadable functions f) (rest : Bounded gs) → (s : IsReadable functions g) × (bound_of g s ≤ bound_of f r + rest.total)
+      at zero g there r rest = let same : f ≡ g = cc in subst (λ h. (s : IsReadable functions h) × (bound_of h s ≤ bound_of f r + rest.total)) same (r, omega arith)
+      at (suc n) g there r rest = let h = rest.each n g there in (h.0, omega (arith, h.1))
+
+  -- ---- a function behind its name
+
+  module _ (w : Frame (world functions k)) (nz : Numbers) (names : Names) (f : FuncNo) (g : Func) (r : IsReadable functions g) where
+    -- what stands behind the name, read with this name
+    behind_lead : (at : Place) (name : Option Name) (params_of : Reading (List Name)) (c : Spot) (line : Bool) (rest : List Shape) → option_map unplaced.name name ≡ option_map unplaced.name g.name
+        → ((v : Frame (world functions (k + 1))) (d : Spot) (more : List Shape) (mz : Numbers) → Ready v d.functions mz
+        → Leads v mz (AreNames g.params) d (tokens_from false (separated parameter g.params ++ closing (codes ")")) ++ more) more params_of give)
+        → w.opened + bound_of g r ≤ w.limit → Ready (reading w f.0) c.functions (in_body g.body ++ nz)
+        → Leads (reading w f.0) nz (IsFunc g) c (tokens_from line (behind_name function names g) ++ rest) rest (F.function_behind grammar at name params_of) give
+    behind_lead at name params_of c line rest same params_lead room ready = function_lead function reads g r.plain r.body names at name params_of (reading w f.0) c line rest nz same params_lead room ready
+
+    plain_params : (v : Frame (world functions (k + 1))) (d : Spot) (more : List Shape) (mz : Numbers) → Ready v d.functions mz
+        → Leads v mz (AreNames g.params) d (tokens_from false (separated parameter g.params ++ closing (codes ")")) ++ more) more F.parameters give
+    plain_params v d more mz ready = parameters_lead g.params v d more mz r.params ready
+
+    named_lead : (n : Name) → g.name ≡ Some n → (at : Place) (c : Spot) (rest : List Shape) → w.opened + bound_of g r ≤ w.limit → Ready (reading w f.0) c.functions (in_body g.body ++ nz)
+        → Leads (reading w f.0) nz (IsFunc g) c (shape (name_form n.text) false ∷ (tokens_from false (behind_name function names g) ++ rest)) rest
+        (F.declared_name >>= λ name. F.function_behind grammar at (Some name) F.parameters) give
+    named_lead n is at c rest room ready =
+        let identifier : is_identifier n.text ≡ true = ap (readable.is_name_or_none functions) (sym is) ∙ r.named in
+        bind (name_lead n (is_declared n.text identifier) (reading w f.0) c false (tokens_from false (behind_name function names g) ++ rest) (in_body g.body ++ nz) ready) (λ m d same done.
+        behind_lead at (Some m) F.parameters d false rest (ap Some same.same ∙ ap (option_map unplaced.name) (sym is)) plain_params room done)
+
+    expression_lead : (o : Option Name) → g.name ≡ o → (at : Place) (c : Spot) (rest : List Shape) → w.opened + bound_of g r ≤ w.limit → Ready w c.functions (f.0 ∷ nz) → (b : Begins w c.functions f nz) → b.function ≡ g
+        → Leads w nz (IsNumber f) c (tokens_from false (own_name true o ++ behind_name function names g) ++ rest) rest (sees Marks.identifier >>= by_name at) give
+    expression_lead None is at c rest room ready b same =
+        let front = tokens_from false (behind_name function names g) ++ rest in
+        from {d = c} {other = front} {n = by_name at false} (ap (λ q. by_name at q (rest_of w c front)) no_name)
+        (numbered_lead f at (F.function_behind grammar at None F.parameters) c front rest ready b (λ d inside.
+        subst (λ h. Leads (reading w f.0) nz (IsFunc h) d front rest (F.function_behind grammar at None F.parameters) give) (sym same)
+        (behind_lead at None F.parameters d false rest (ap (option_map unplaced.name) (sym is)) plain_params room (subst (λ h. Ready (reading w f.0) d.functions (in_body h.body ++ nz)) same inside))))
+    expression_lead (Some n) is at c rest room ready b same =
+        let front = shape (name_form n.text) false ∷ (tokens_from false (behind_name function names g) ++ rest) in
+        let identifier : is_identifier n.text ≡ true = ap (readable.is_name_or_none functions) (sym is) ∙ r.named in
+        from {d = c} {other = front} {n = by_name at true} (ap (λ q. by_name at (is_some q) (rest_of w c front)) (is_declared n.text identifier).form)
+        (numbered_lead f at (F.declared_name >>= λ name. F.function_behind grammar at (Some name) F.parameters) c front rest ready b (λ d inside.
+        subst (λ h. Leads (reading w f.0) nz (IsFunc h) d front rest (F.declared_name >>= λ name. F.function_behind grammar at (Some name) F.parameters) give) (sym same)
+        (named_lead n is at d rest room (subst (λ h. Ready (reading w f.0) d.functions (in_body h.body ++ nz)) same inside))))
+
+    declaration_lead : (o : Option Name) → g.name ≡ o → is_some o ≡ true → (at : Place) (c : Spot) (rest : List Shape) → w.opened + bound_of g r ≤ w.limit → Ready w c.functions (f.0 ∷ nz) → (b : Begins w c.functions f nz) → b.function ≡ g
+        → Leads w nz (IsNumber f) c (tokens_from false (own_name true o ++ behind_name function names g) ++ rest) rest
+        (numbered at (F.declared_name >>= λ name. F.function_behind grammar at (Some name) F.parameters)) give
+    declaration_lead None is has at c rest room ready b same = absurd (cc)
+    declaration_lead (Some n) is has at c rest room ready b same =
+        let front = shape (name_form n.text) false ∷ (tokens_from false (behind_name function names g) ++ rest) in
+        numbered_lead f at (F.declared_name >>= λ name. F.function_behind grammar at (Some name) F.parameters) c front rest ready b (λ d inside.
+        subst (λ h. Leads (reading w f.0) nz (IsFunc h) d front rest (F.declared_name >>= λ name. F.function_behind grammar at (Some name) F.parameters) give) (sym same)
+        (named_lead n is at d rest room (subst (λ h. Ready (reading w f.0) d.functions (in_body h.body ++ nz)) same inside)))
+
+    accessor_lead : (o : Option Name) → g.name ≡ o → is_none o ≡ true → (at : Place) (params_of : Reading (List Name)) (c : Spot) (line : Bool) (rest : List Shape)
+        → ((v : Frame (world functions (k + 1))) (d : Spot) (more : List Shape) (mz : Numbers) → Ready v d.functions mz
+        → Leads v mz (AreNames g.params) d (tokens_from false (separated parameter g.params ++ closing (codes ")")) ++ more) more params_of give)
+        → w.opened + bound_of g r ≤ w.limit → Ready w c.functions (f.0 ∷ nz) → (b : Begins w c.functions f nz) → b.function ≡ g
+        → Leads w nz (IsNumber f) c (tokens_from line (own_name false o ++ behind_name function names g) ++ rest) rest (F.accessor grammar at params_of) give
+    unfolding F.accessor
+    accessor_lead (Some n) is has at params_of c line rest params_lead room ready b same = absurd (cc)
+    accessor_lead None is has at params_of c line rest params_lead room ready b same =
+        let front = tokens_from line (behind_name function names g) ++ rest in
+        numbered_lead f at (F.function_behind grammar at None params_of) c front rest ready b (λ d inside.
+        subst (λ h. Leads (reading w f.0) nz (IsFunc h) d front rest (F.function_behind grammar at None params_of) give) (sym same)
+        (behind_lead at None params_of d line rest (ap (option_map unplaced.name) (sym is)) params_lead room (subst (λ h. Ready (reading w f.0) d.functions (in_body h.body ++ nz)) same inside)))
+
+-- ---- the functions of a script, to a depth
+
+module _ (functions : List Func) (are : list_all (readable.is_function functions) functions ≡ true)
+    (statements : (all : World) (function : Bool → FuncNo → List Piece) → FunctionsRead all function → ElementsRead all function) where
+  -- where a function that may be read is none of the script's
+  none_left : (k : ℕ) (w : Frame (world functions k)) (fs : List Func) (f : FuncNo) (nz : Numbers) → length functions ≤ k → Ready w fs (f.0 ∷ nz) → suc k ≤ k
+  none_left k w fs f nz deep r = let b = begins w fs f nz r in omega (arith, b.more, r.deep, deep)
+
+  nothing : {A : Type 0} (k : ℕ) → suc k ≤ k → A
+  nothing k h = absurd (omega (arith, h))
+
+  no_functions : (k : ℕ) → length functions ≤ k → FunctionsRead (world functions k) (function_to zero functions)
+  unfolding function_to
+  no_functions k deep = record {
+    ends = λ named f before h. subst Flows (sym (append-nil before)) h;
+    bound = 0;
+    expression = λ f at. record { at = λ w c line rest nz room ready fits. nothing k (none_left k w c.functions f nz deep ready) };
+    declaration = λ f at has. record { at = λ w c line rest nz room ready fits. nothing k (none_left k w c.functions f nz deep ready) };
+    getter = λ f at has. record { at = λ w c line rest nz room ready fits. nothing k (none_left k w c.functions f nz deep ready) };
+    setter = λ f at has. record { at = λ w c line rest nz room ready fits. nothing k (none_left k w c.functions f nz deep ready) };
+  }
+
+  module _ (k d : ℕ) (deeper : FunctionsRead (world functions (k + 1)) (function_to d functions)) where
+    abbrev function : Bool → FuncNo → List Piece
+    function = function_to d functions
+
+    abbrev reads : ElementsRead (world functions (k + 1)) function
+    reads = statements (world functions (k + 1)) function deeper
+
+    abbrev total : ℕ
+    total = (bounded functions k function reads functions are).total
+
+    is_func : (named : Bool) (f : FuncNo) (g : Func) → slice_get functions f.0 ≡ Some g → function_to (suc d) functions named f ≡ func function (bound_names named functions g) named g
+    unfolding function_to
+    is_func named f g there = ap (found (λ g. func (function_to d functions) (bound_names named functions g) named g)) there
+
+    ends_so : (named : Bool) (f : FuncNo) (before : List Piece) → Flows before → Flows (before ++ function_to (suc d) functions named f)
+    unfolding function_to
+    ends_so named f before h = by (slice_get functions f.0)
+      where
+        by : (o : Option Func) → Flows (before ++ found (λ g. func (function_to d functions) (bound_names named functions g) named g) o)
+        by None = subst Flows (sym (append-nil before)) h
+        by (Some g) = flows_last before (func function (bound_names named functions g) named g) (flows_func function (bound_names named functions g) named g)
+
+    function_first : (f : FuncNo) (g : Func) (line : Bool) (rest : List Shape) → slice_get functions f.0 ≡ Some g
+        → tokens_from line (word (codes "function") ++ function_to (suc d) functions true f) ++ rest
+        ≡ shape (form_of (codes "function")) line ∷ (tokens_from false (own_name true g.name ++ behind_name function (bound_names true functions g) g) ++ rest)
+    function_first f g line rest there = ap (λ ps. shape (form_of (codes "function")) line ∷ (tokens_from false ps ++ rest)) (is_func true f g there)
+
+    expression_read : (f : FuncNo) (at : Place) → Read (world functions k) total (word (codes "function") ++ function_to (suc d) functions true f) (f.0 ∷ []) (IsNumber f) anything (F.function_expression grammar at) give
+    unfolding F.function_expression
+    expression_read f at = record {
+      at = λ w c line rest nz room ready fits.
+          let b = begins w c.functions f nz ready in
+          let g = b.function in
+          let h = (bounded functions k function reads functions are).each f.0 g b.there in
+          let s : Shape = shape (form_of (codes "function")) line in
+          on (function_first f g line rest b.there)
+          (expected {c = c} {s = s} Marks.function_word tt (λ _. sees Marks.identifier >>= by_name at) function_word_is
+          (expression_lead functions k function reads w nz (bound_names true functions g) f g h.0 g.name refl at (after c s) rest (omega (arith, room, h.1)) ready b refl));
+    }
+
+    declaration_read : (f : FuncNo) (at : Place) → readable.has_name (slice_get functions f.0) ≡ true
+        → Read (world functions k) total (word (codes "function") ++ function_to (suc d) functions true f) (f.0 ∷ []) (IsNumber f) anything (F.function_declaration grammar at) give
+    unfolding F.function_declaration
+    declaration_read f at has = record {
+      at = λ w c line rest nz room ready fits.
+          let b = begins w c.functions f nz ready in
+          let g = b.function in
+          let h = (bounded functions k function reads functions are).each f.0 g b.there in
+          let s : Shape = shape (form_of (codes "function")) line in
+          on (function_first f g line rest b.there)
+          (expected {c = c} {s = s} Marks.function_word tt (λ _. numbered at (F.declared_name >>= λ name. F.function_behind grammar at (Some name) F.parameters)) function_word_is
+          (declaration_lead functions k function reads w nz (bound_names true functions g) f g h.0 g.name refl (ap readable.has_name (sym b.there) ∙ has) at (after c s) rest (omega (arith, room, h.1)) ready b refl));
+    }
+
+    equal : (m n : ℕ) → (m == n) ≡ true → m ≡ n
+    equal m n e = grind (arith, nat_tests)
+
+    -- of an accessor it is known that it has no name, and how many parameters
+    accessor_parts : (n : ℕ) (f : FuncNo) (g : Func) → slice_get functions f.0 ≡ Some g → is_accessor n (slice_get functions f.0) ≡ true → (is_none g.name ≡ true) × (length g.params ≡ n)
+    accessor_parts n f g there has = let p = both (is_none g.name) (length g.params == n) (ap (is_accessor n) (sym there) ∙ has) in (p.0, equal (length g.params) n p.1)
+
+    getter_read : (f : FuncNo) (at : Place) → is_accessor 0 (slice_get functions f.0) ≡ true
+        → Read (world functions k) total (function_to (suc d) functions false f) (f.0 ∷ []) (IsNumber f) anything (F.accessor grammar at (F.no_parameter grammar)) give
+    getter_read f at has = record {
+      at = λ w c line rest nz room ready fits.
+          let b = begins w c.functions f nz ready in
+          let g = b.function in
+          let h = (bounded functions k function reads functions are).each f.0 g b.there in
+          let p = accessor_parts 0 f g b.there has in
+          on (ap (λ ps. tokens_from line ps ++ rest) (is_func false f g b.there))
+          (accessor_lead functions k function reads w nz (bound_names false functions g) f g h.0 g.name refl p.0 at (F.no_parameter grammar) c line rest (λ v d more mz r. no_parameter_lead g.params v d more mz p.1 r)
+          (omega (arith, room, h.1)) ready b refl);
+    }
+
+    setter_read : (f : FuncNo) (at : Place) → is_accessor 1 (slice_get functions f.0) ≡ true
+        → Read (world functions k) total (function_to (suc d) functions false f) (f.0 ∷ []) (IsNumber f) anything (F.accessor grammar at (F.one_parameter grammar)) give
+    setter_read f at has = record {
+      at = λ w c line rest nz room ready fits.
+          let b = begins w c.functions f nz ready in
+          let g = b.function in
+          let h = (bounded functions k function reads functions are).each f.0 g b.there in
+          let p = accessor_parts 1 f g b.there has in
+          on (ap (λ ps. tokens_from line ps ++ rest) (is_func false f g b.there))
+          (accessor_lead functions k function reads w nz (bound_names false functions g) f g h.0 g.name refl p.0 at (F.one_parameter grammar) c line rest (λ v d more mz r. one_parameter_lead g.params v d more mz p.1 h.0.params r)
+          (omega (arith, room, h.1)) ready b refl);
+    }
+
+    one_deeper : FunctionsRead (world functions k) (function_to (suc d) functions)
+    one_deeper = record { ends = ends_so; bound = total; expression = expression_read; declaration = declaration_read; getter = getter_read; setter = setter_read }
+
+  -- functions from a number on are read where the depth is enough for them
+  pub functions_read : (d k : ℕ) → length functions ≤ k + d → FunctionsRead (world functions k) (function_to d functions)
+  functions_read zero k deep = no_functions k (omega (arith, deep))
+  functions_read (suc d) k deep = one_deeper k d (functions_read d (k + 1) (omega (arith, deep)))

@@ -1,0 +1,12 @@
+//! Reading back as a definition, second half: the tokens of a script as it is printed read to its tree.
+#![tactic(auto)]
+
+ghost use Rattle.reading_back.specs.ReadsBack.{ReadsBack};
+
+/// A law on definitions: any tokens that are those of the pieces of a readable script, whatever their places, read to this
+/// script but for places, where enough parts may be open and trees of any height are allowed; with any limit they read to
+/// the same tree, or something is nested too deep.
+#[tactic(auto, using(crate::proofs::Law::reads_back))]
+pub fn reading_back()
+    ensures { ReadsBack }
+{}
