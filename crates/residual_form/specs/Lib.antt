@@ -1,0 +1,11 @@
+pub mod Paths
+pub mod Names
+pub mod Acts
+pub mod Bodies
+pub mod Values
+pub mod Statements
+pub mod Form
+pub mod Creations
+pub mod FormCases
+pub mod WholeCases
+pub mod SmallForm
