@@ -1,9 +1,3 @@
-pub mod Forms
-pub mod Texts
-pub mod Lexing
-pub mod Reading
-pub mod Running
-pub mod Spelled
 pub mod Opening
 pub mod ExpressionRuns
 pub mod WorldRuns
@@ -11,14 +5,8 @@ pub mod StatementRuns
 pub mod FunctionRuns
 pub mod ObjectRuns
 pub mod ArrayRuns
+pub mod ChoiceRuns
 pub mod ListingCases
 pub mod RealmCases
-pub mod Variables
-pub mod GlobalVariables
-pub mod GlobalNames
-pub mod Declaring
-pub mod SimpleExpressions
-pub mod SimpleStatements
-pub mod SimpleScripts
 pub mod Steps
 pub mod TextCases

@@ -1,10 +1,4 @@
-pub mod Events
-pub mod Simple
-pub mod Runs
-pub mod Listing
-pub mod Readable
 pub mod Machine
-pub mod SimpleRuns
 pub mod RunCases
 pub mod ExpressionRuns
 pub mod WorldRuns
@@ -12,6 +6,7 @@ pub mod StatementRuns
 pub mod FunctionRuns
 pub mod ObjectRuns
 pub mod ArrayRuns
+pub mod ChoiceRuns
 pub mod ListingCases
 pub mod RealmCases
 pub mod TextCases

@@ -11,6 +11,8 @@ pub mod ArrayBuiltins
 pub mod Realm
 pub mod Levels
 pub mod Walks
+pub mod Worlds
+pub mod Choices
 pub mod Listed
 pub mod Laws
 pub mod RunText

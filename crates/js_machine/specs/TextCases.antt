@@ -1,15 +1,19 @@
 -- Texts of runs, worked out by hand for the heaps of `ListingCases`.
-use Rattle.std.specs.Prelude.{◌≡◌, ℕ, List, [], ◌∷◌, ◌++◌, codes}
+use Rattle.std.specs.Prelude.{◌≡◌, ℕ, List, [], ◌∷◌, ◌++◌, codes, Some, None}
 use Rattle.js_value.specs.declared.place.FuncNo.{FuncNo}
 use Rattle.js_value.specs.declared.primitive.Kind.TheVariants as kind
 use Rattle.js_tree.specs.Mentions.{Names}
+use Rattle.js_tree.specs.Trees.{expr, name, stmt, no, declared, declarator, func, script}
+use Rattle.js_tree.specs.declared.expression.ExprForm.TheVariants as e
+use Rattle.js_tree.specs.declared.statement.Script.{Script}
+use Rattle.js_tree.specs.declared.statement.StmtForm.TheVariants as s
 use Rattle.plain_heap.specs.Heap.{Heap}
 use Rattle.plain_heap.specs.Values.{Object, number, text}
 use Rattle.js_machine.specs.ListingCases.{rows, after_number, after_cycle, after_function, after_realm_changes, after_deletion, after_throw, after_array, after_capture}
 use Rattle.js_machine.specs.Machine.Listed.{listing_by, queue_of}
 use Rattle.js_machine.specs.Machine.Realm.{realm}
-use Rattle.js_machine.specs.Machine.RunText.{line, run_text}
-use Rattle.js_machine.specs.Machine.Walks.{HostEvent, Ending, Normally, Thrown}
+use Rattle.js_machine.specs.Machine.RunText.{line, run_text, outcome_text}
+use Rattle.js_machine.specs.Machine.Walks.{HostEvent, Ended, Ending, Normally, Thrown}
 
 -- the code of the function, as its tokens would be printed
 abbrev pub shown : FuncNo × Names → List ℕ
@@ -112,7 +116,17 @@ host_calls_text =
     ++ line (codes "call \"tick\"(5, \"a\") = 9")
     ++ line (codes "normal")
 
+-- function F() {} var p = F.prototype; F.prototype = {};
+abbrev pub function_script : Script
+function_script =
+    script (stmt 0 (s.FuncDecl (no 0))
+    ∷ stmt 16 (s.Var (declarator 20 (codes "p") (Some (expr 24 (e.Member (name 24 (codes "F")) (codes "prototype")))) ∷ []))
+    ∷ stmt 37 (s.Eval (expr 37 (e.Assign (expr 37 (e.Member (name 37 (codes "F")) (codes "prototype"))) None (expr 51 (e.ObjectLit [])))))
+    ∷ []) (func 0 (Some (declared 9 (codes "F"))) [] [] ∷ [])
+
 pub record TextCases : Type 0 where
+  -- with the code of the script's function
+  pub with_code : outcome_text function_script (Ended [] Normally after_function) ≡ Some a_function_text
   pub a_number : text_of [] after_number Normally ≡ a_number_text
   pub a_cycle : text_of [] after_cycle Normally ≡ a_cycle_text
   pub a_function : text_of [] after_function Normally ≡ a_function_text

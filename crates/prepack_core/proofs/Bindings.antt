@@ -8,10 +8,10 @@ use Rattle.std.proofs.lemmas.Bool.{and_parts, and_from}
 use Rattle.std.proofs.lemmas.Option.{get_or_from_slice_get, slice_get_within}
 use Rattle.std.proofs.lemmas.List.Sums.{AllPass-from_list_all}
 use Rattle.js_tree.specs.SimpleTokens.{is_simple_name}
-use Rattle.js_machine.specs.Readable.{is_plain_value, is_readable, is_readable_variable}
+use Rattle.simple_runs.specs.Readable.{is_plain_value, is_readable, is_readable_variable}
 use Rattle.std.specs.Str.{bytes_eq}
 use Rattle.indexmap.specs.IndexMap.{insert_entry}
-use Rattle.js_machine.specs.Events.{lookup, put}
+use Rattle.simple_runs.specs.Events.{lookup, put}
 use Rattle.prepack_core.specs.declared.value.Value.{Value}
 use Rattle.prepack_core.specs.declared.value.Value.TheVariants as value
 use Rattle.prepack_core.specs.Values.{primitive_of, shown}

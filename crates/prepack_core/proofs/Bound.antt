@@ -7,7 +7,7 @@ use Rattle.std.proofs.lemmas.Slice.Eq.{bytes_eq-Decides}
 use Rattle.js_value.specs.declared.primitive.Primitive.TheVariants.{Undefined}
 use Rattle.js_tree.specs.Simple.{is_among}
 use Rattle.js_value.specs.declared.primitive.Primitive.{Primitive}
-use Rattle.js_machine.specs.Events.{Heap, lookup, put, put_unless, declare}
+use Rattle.simple_runs.specs.Events.{Heap, lookup, put, put_unless, declare}
 use Rattle.prepack_core.specs.Evaluates.{is_bound, are_bound, KeepsBound, declared_after}
 
 -- a put keeps what is bound

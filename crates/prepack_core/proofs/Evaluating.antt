@@ -20,9 +20,9 @@ use Rattle.js_tree.specs.declared.statement.Declarator.{Declarator}
 use Rattle.js_tree.specs.declared.statement.Stmt.{Stmt}
 use Rattle.js_tree.specs.declared.statement.StmtForm.{out-StmtForm}
 use Rattle.js_tree.specs.declared.statement.StmtForm.TheOpen.{StmtForm-F}
-use Rattle.js_machine.specs.Events.{Heap, Tree, Step, Run, ◌>>=◌, step, give, lookup, put, change, or_no_rule}
-use Rattle.js_machine.specs.Simple.{evaluation, minus_rule, add_rule, subtract_rule, name_rule, negation, arithmetic, form_rule, expr_rule, declarator_rule, declarators_rule, statement_rule, statement}
-use Rattle.js_machine.specs.Runs.{walk}
+use Rattle.simple_runs.specs.Events.{Heap, Tree, Step, Run, ◌>>=◌, step, give, lookup, put, change, or_no_rule}
+use Rattle.simple_runs.specs.Simple.{evaluation, minus_rule, add_rule, subtract_rule, name_rule, negation, arithmetic, form_rule, expr_rule, declarator_rule, declarators_rule, statement_rule, statement}
+use Rattle.simple_runs.specs.Runs.{walk}
 use Rattle.prepack_core.specs.declared.value.Value.{Value}
 use Rattle.prepack_core.specs.declared.evaluate.Departure.{Departure}
 use Rattle.prepack_core.specs.declared.evaluate.Stop.{Stop}

@@ -1,6 +1,10 @@
 -- The residual of a script's variables keeps what is promised.
-use Rattle.std.proofs.Common.{◌≡◌, ℕ, ◌*◌, ◌≤◌, Bool, true, false, cond, List, [], ◌∷◌, length, refl, ap, sym, ◌∙◌, arith, IsTrue}
-use Rattle.std.specs.Prelude.{◌≢◌, Ok, Err}
+use Rattle.std.proofs.Common.{◌≡◌, ℕ, ◌*◌, ◌≤◌, Bool, true, false, cond, List, [], ◌∷◌, ◌++◌, length, map, refl, ap, sym, ◌∙◌, subst, arith, IsTrue}
+use Rattle.std.specs.Prelude.{◌≢◌, Option, Some, Ok, Err}
+use Rattle.js_value.specs.declared.place.Place.{Place}
+use Rattle.js_value.specs.declared.primitive.Primitive.{Primitive}
+use Rattle.js_value.specs.declared.why.Why.{Why}
+use Rattle.js_tree.specs.Mentions.{free_names}
 use Rattle.js_tree.specs.declared.refusal.Feature.TheVariants.{NotBuilt}
 use Rattle.js_tree.specs.declared.refusal.ReadRefused.{ReadRefused}
 use Rattle.js_tree.specs.declared.refusal.ReadRefused.TheVariants as refused
@@ -10,17 +14,26 @@ use Rattle.js_tree.specs.Count.{nodes}
 use Rattle.js_tree.specs.SimpleTokens.{place}
 use Rattle.js_tree.specs.SimpleScripts.{is_simple}
 use Rattle.script_reader.specs.Reads.{reads}
-use Rattle.js_tree.specs.Residual.{is_residual, IsFresh, snapshot}
+use Rattle.js_tree.specs.Residual.{snapshot}
 use Rattle.js_tree.specs.Text.{script_text}
-use Rattle.js_machine.specs.Events.{Heap}
-use Rattle.js_machine.specs.Readable.{placed}
-use Rattle.js_machine.specs.Runs.{World, empty_world, Call, Ending, Outcome, Ended, Normal, plain, opened, open_run}
-use Rattle.js_machine.specs.Listing.{listing, Agree}
+use Rattle.plain_heap.specs.Heap.{Heap, Key}
+use Rattle.plain_heap.specs.Values.{ObjNo}
+use Rattle.js_machine.specs.Machine.Choices.{OpenRun, OpenEnded, Stopped, Leaves, EndsOrWants, open_run}
+use Rattle.js_machine.specs.Machine.Listed.{ListedProperty, Row, RealmRow, listing}
+use Rattle.js_machine.specs.Machine.Numbers.{global}
+use Rattle.js_machine.specs.Machine.Walks.{World, HostEvent, Ending, Outcome, Ended, Normally, plain}
+use Rattle.simple_runs.specs.Listing.{line, listing as simple_listing}
+use Rattle.simple_runs.specs.Readable.{placed}
+use Rattle.simple_runs.specs.Runs as simple
+use Rattle.simple_runs.specs.SimpleListings.{SimpleListings, line_of, row_of}
+use Rattle.simple_runs.specs.SimpleRuns.{SimpleRuns, Says, SaysOpened, came, realm_with}
 use Rattle.prepack_core.specs.declared.evaluate.Stop.{Stop}
 use Rattle.prepack_core.specs.declared.evaluate.Stop.TheVariants as stop
 use Rattle.prepack_core.specs.declared.report.Report.{Report}
 use Rattle.prepack_core.specs.Evaluates.{Evaluates, IsReportOf, report_of_refusal}
-use Rattle.prepack_core.specs.Promises.{if_built, taken, IsResidualOf, IsReason, IsUnsupported}
+use Rattle.residual_form.specs.Form.{is_residual, is_fresh}
+use Rattle.script_text.specs.CodeLine.{code_text}
+use Rattle.prepack_core.specs.Promises.{if_built, taken, variable_in, AreVariables, IsResidualOf, IsReason, IsUnsupported}
 
 -- a source within the limit has fewer nodes than the least budget
 pub few_steps : (nodes length steps : ℕ) → 21 * nodes ≤ 20 * length → length ≤ 1048576 → 1000000 ≤ steps → nodes ≤ steps
@@ -47,21 +60,77 @@ refused_reason n source (refused.Unsupported at feature) r gives is = rw is (tak
 refused_reason n source (refused.Nested at) r gives is = rw is (taken-refused source (refused.Nested at) (gives (λ same. cc)))
 refused_reason n source refused.NoMemory r gives is = rw is tt
 
-same_heap : (calls calls2 : List Call) (e e2 : Ending) (h h2 : Heap) → Ended calls e h ≡ Ended calls2 e2 h2 → h ≡ h2
-same_heap calls calls2 e e2 h h2 same = cc
+-- ---- simple scripts by the rules of the whole language
 
-no_row : (heap : Heap) → listing heap ≡ [] → heap ≡ []
+module _ (law : SimpleRuns) (s : Script) (is : is_simple s ≡ true) where
+  says_ended : (o : simple.Outcome) (p : Outcome) (vs : List (List ℕ × Primitive)) → o ≡ simple.Ended vs → Says o p → p ≡ Ended [] Normally (realm_with vs)
+  says_ended o p vs ended says = rw ended at says
+
+  ends : (w : World) (n : ℕ) (vs : List (List ℕ × Primitive)) → simple.plain s n ≡ simple.Ended vs → plain s w n ≡ Ended [] Normally (realm_with vs)
+  ends w n vs ended = says_ended (simple.plain s n) (plain s w n) vs ended (law.runs s w n is)
+
+  says_opened : (o : simple.Opened) (choices : List Bool) (r : OpenRun) → o ≡ simple.OpenEnded → SaysOpened o choices r → EndsOrWants r.came_to
+  says_opened o choices r ended says = let opened : r ≡ came OpenEnded choices = rw ended at says in rw opened tt
+
+  opens : (choices : List Bool) (n : ℕ) (vs : List (List ℕ × Primitive)) → simple.plain s n ≡ simple.Ended vs → EndsOrWants (open_run s choices n).came_to
+  unfolding simple.open_run
+  opens choices n vs ended = says_opened (simple.open_run s choices n) choices (open_run s choices n) (ap simple.opened ended) (law.opens s choices n is)
+
+  says_stopped : (o : simple.Opened) (choices : List Bool) (r : OpenRun) (why : Why) (at : Place) → o ≡ simple.Stopped why at → SaysOpened o choices r → r ≡ came (Stopped (Leaves why) at) choices
+  says_stopped o choices r why at stopped says = rw stopped at says
+
+  stops : (choices : List Bool) (n : ℕ) (why : Why) (at : Place) → simple.plain s n ≡ simple.Left why at → open_run s choices n ≡ came (Stopped (Leaves why) at) choices
+  unfolding simple.open_run
+  stops choices n why at left = says_stopped (simple.open_run s choices n) choices (open_run s choices n) why at (ap simple.opened left) (law.opens s choices n is)
+
+-- ---- what a simple script leaves
+
+same_heap : (calls made : List HostEvent) (e f : Ending) (h g : Heap) → Ended calls e h ≡ Ended made f g → h ≡ g
+same_heap calls made e f h g same = cc
+
+no_row : (vs : List (List ℕ × Primitive)) → map (row_of {C = List ℕ}) (simple_listing vs) ≡ [] → vs ≡ []
 no_row [] none = refl
-no_row (p ∷ ps) none = cc
+no_row (v ∷ vs) none = cc
 
-both_end : (a b : Outcome) (heap : Heap) → a ≡ Ended [] Normal heap → b ≡ Ended [] Normal heap → Agree a b
-both_end a b heap x y = rw (x, y) (refl, refl, refl)
+some_first : (v u : List ℕ × Primitive) (os ps : List (Option (List ℕ × Primitive))) → Some v ∷ os ≡ Some u ∷ ps → v ≡ u
+some_first v u os ps same = cc
 
-pub residual_of : (n : ℕ) (source text : List ℕ) (s : Script) (vs : Heap) → reads source 200 ≡ Ok s → taken source ≡ Ok s → nodes s ≤ n → Evaluates s (Ok vs) → text ≡ script_text (snapshot vs)
-    → reads (script_text (snapshot vs)) 1024 ≡ Ok (placed vs) → IsTrue (is_residual (placed vs)) → IsFresh (placed vs) s → script_text (placed vs) ≡ script_text (snapshot vs)
-    → ((w : World) → plain (placed vs) w (nodes (placed vs)) ≡ Ended [] Normal vs) → IsResidualOf n source text
-unfolding open_run snapshot script_text
-residual_of n source text s vs read takes enough runs e back form fresh same rebuilds = record {
+some_rest : (v u : List ℕ × Primitive) (os ps : List (Option (List ℕ × Primitive))) → Some v ∷ os ≡ Some u ∷ ps → os ≡ ps
+some_rest v u os ps same = cc
+
+some_same : (vs us : List (List ℕ × Primitive)) → map (λ v. Some v) vs ≡ map (λ v. Some v) us → vs ≡ us
+some_same [] [] same = refl
+some_same [] (u ∷ us) same = cc
+some_same (v ∷ vs) [] same = cc
+some_same (v ∷ vs) (u ∷ us) same =
+    let os = map (λ (v : List ℕ × Primitive). Some v) vs in
+    let ps = map (λ (v : List ℕ × Primitive). Some v) us in
+    ap (λ w. w ∷ vs) (some_first v u os ps same) ∙ ap (λ ws. u ∷ ws) (some_same vs us (some_rest v u os ps same))
+
+lines_in : (vs : List (List ℕ × Primitive)) → map variable_in (map line_of (map line vs)) ≡ map (λ v. Some v) vs
+lines_in [] = refl
+lines_in (v ∷ vs) = ap (λ rest. Some v ∷ rest) (lines_in vs)
+
+-- the variables that a row of variables shows are these
+same_lines : (o p : ObjNo) (f g : Bool) (gone lost : List Key) (others others2 new new2 : List ListedProperty) (rest : List (Row (List ℕ)))
+    → RealmRow o f gone others new ∷ [] ≡ RealmRow p g lost others2 new2 ∷ rest → (others ≡ others2) × (new ≡ new2)
+same_lines o p f g gone lost others others2 new new2 rest same = (cc, cc)
+
+are_these : (s : Script) (vs us : List (List ℕ × Primitive)) → AreVariables s (map row_of (simple_listing vs)) us → vs ≡ us
+are_these s [] us are = absurd (nonempty are.row)
+  where
+    nonempty : {A : Type 0} {x : A} {xs : List A} → [] ≡ x ∷ xs → ⊥
+    nonempty same = cc
+are_these s (v ∷ vs) us are =
+    let same = same_lines global global false are.fixed [] [] [] are.others (map line_of (map line (v ∷ vs))) are.new [] are.row in
+    some_same (v ∷ vs) us (sym (lines_in (v ∷ vs)) ∙ ap (λ ls. map variable_in ls) same.1 ∙ ap (λ ls. map variable_in (ls ++ are.new)) same.0 ∙ are.lines)
+
+pub residual_of : (n : ℕ) (source text : List ℕ) (s : Script) (vs : List (List ℕ × Primitive)) → SimpleRuns → SimpleListings code_text → is_simple s ≡ true
+    → reads source 200 ≡ Ok s → taken source ≡ Ok s → nodes s ≤ n → Evaluates s (Ok vs) → text ≡ script_text (snapshot vs)
+    → reads (script_text (snapshot vs)) 1024 ≡ Ok (placed vs) → IsTrue (is_residual (placed vs)) → IsTrue (is_fresh (placed vs) s) → script_text (placed vs) ≡ script_text (snapshot vs)
+    → ((w : World) → plain (placed vs) w (nodes (placed vs)) ≡ Ended [] Normally (realm_with vs)) → IsResidualOf n source text
+unfolding snapshot script_text
+residual_of n source text s vs law listings is read takes enough runs e back form fresh same rebuilds = record {
   script = s;
   reads_source = read;
   takes_source = takes;
@@ -70,13 +139,19 @@ residual_of n source text s vs read takes enough runs e back form fresh same reb
   form = form;
   fresh = fresh;
   text = e ∙ sym same;
-  alike = λ w typed stays. both_end (plain s w n) (plain (placed vs) w (nodes (placed vs))) vs (runs w n enough) (rebuilds w);
-  paths = λ choices. rw (runs empty_world n enough) tt;
-  variables = λ closed w calls heap ran are has. e ∙ ap (λ h. script_text (snapshot h)) (same_heap [] calls Normal Normal vs heap (sym (runs w n enough) ∙ ran));
-  nothing = λ closed w calls heap ran none. e ∙ ap (λ h. script_text (snapshot h)) (same_heap [] calls Normal Normal vs heap (sym (runs w n enough) ∙ ran) ∙ no_row heap none);
+  alike = λ w typed stays. listings.agree s (placed vs) (simple.Ended vs) (simple.Ended vs) (plain s w n) (plain (placed vs) w (nodes (placed vs))) (ends law s is w n vs (runs n enough)) (rebuilds w) refl;
+  paths = λ choices. opens law s is choices n vs (runs n enough);
+  variables = λ closed w calls h us ran are has. e ∙ ap (λ us. script_text (snapshot us)) (are_these s vs us (subst (λ rows. AreVariables s rows us) (listed w calls h ran) are));
+  nothing = λ closed w calls h ran none. e ∙ ap (λ us. script_text (snapshot us)) (no_row vs (sym (listed w calls h ran) ∙ none));
 }
+  where
+    listed : (w : World) (calls : List HostEvent) (h : Heap) → plain s w n ≡ Ended calls Normally h → listing code_text s h Normally ≡ map row_of (simple_listing vs)
+    listed w calls h ran =
+        ap (λ g. listing code_text s g Normally) (same_heap calls [] Normally Normally h (realm_with vs) (sym ran ∙ ends law s is w n vs (runs n enough)))
+        ∙ listings.rows (code_text s) (free_names s) vs
 
-pub reason_of : (n : ℕ) (source : List ℕ) (s : Script) (stopped : Stop) (r : Report) → taken source ≡ Ok s → nodes s ≤ n → Evaluates s (Err stopped) → IsReportOf stopped r → IsReason n source r
-unfolding open_run
-reason_of n source s (stop.Left d) r read enough runs is = rw is (s, read, refl, ap opened (runs empty_world n enough))
-reason_of n source s stop.NoMemory r read enough runs is = rw is tt
+pub reason_of : (n : ℕ) (source : List ℕ) (s : Script) (stopped : Stop) (r : Report) → SimpleRuns → is_simple s ≡ true → taken source ≡ Ok s → nodes s ≤ n → Evaluates s (Err stopped) → IsReportOf stopped r → IsReason n source r
+reason_of n source s (stop.Left d) r law is read enough runs reported =
+    let stopped = stops law s is [] n d.why d.at (runs n enough) in
+    rw reported (s, read, ap (λ o. o.left) stopped, ap (λ o. o.came_to) stopped)
+reason_of n source s stop.NoMemory r law is read enough runs reported = rw reported tt

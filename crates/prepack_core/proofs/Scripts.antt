@@ -12,9 +12,9 @@ use Rattle.js_tree.specs.declared.statement.Declarator.{Declarator}
 use Rattle.js_tree.specs.declared.statement.Stmt.{Stmt}
 use Rattle.js_tree.specs.declared.statement.StmtForm.{out-StmtForm}
 use Rattle.js_tree.specs.declared.statement.Script.{Script}
-use Rattle.js_machine.specs.Events.{Heap, Tree, End, declare}
-use Rattle.js_machine.specs.Simple.{in_turn, statement, declared, script_tree}
-use Rattle.js_machine.specs.Runs.{walk, plain}
+use Rattle.simple_runs.specs.Events.{Heap, Tree, End, declare}
+use Rattle.simple_runs.specs.Simple.{in_turn, statement, declared, script_tree}
+use Rattle.simple_runs.specs.Runs.{walk, plain}
 use Rattle.prepack_core.specs.declared.evaluate.Stop.{Stop}
 use Rattle.prepack_core.specs.declared.evaluate.Stop.TheVariants as stop
 use Rattle.prepack_core.specs.Evaluates.{Gives, RunsTo, Evaluates, declared_after, are_bound}
@@ -69,12 +69,12 @@ budget s n h = omega arith
 
 pub script_ends : (s : Script) (heap : Heap) → Gives (in_turn statement s.body) (declared (declared_names s.body)) (in_stmts s.body) tt heap → Evaluates s (Ok heap)
 unfolding plain script_tree
-script_ends s heap x = λ w n h. ap (λ m. walk m (script_tree s)) (budget s n h) ∙ x.goes (λ _ g. End g) (n - in_stmts s.body)
+script_ends s heap x = λ n h. ap (λ m. walk m (script_tree s)) (budget s n h) ∙ x.goes (λ _ g. End g) (n - in_stmts s.body)
 
 pub script_stops : (s : Script) (r : Stop) (heap : Heap) (body : List Stmt) (start : Heap) → body ≡ s.body → start ≡ declared (declared_names s.body)
     → RunsTo (in_turn statement body) start (in_stmts body) (Err r) heap → Evaluates s (Err r)
 unfolding plain script_tree
-script_stops s (stop.Left d) heap body start same same_start x = λ w n h.
+script_stops s (stop.Left d) heap body start same same_start x = λ n h.
     let rest = n - in_stmts s.body in
     let k : Unit {0} → Heap → Tree = λ _ g. End g in
     ap (λ m. walk m (script_tree s)) (budget s n h)

@@ -6,9 +6,9 @@ use Rattle.std.proofs.lemmas.List.Sums.{sum_by-cons, AllPass-from_list_all}
 use Rattle.std.proofs.lemmas.List.Folds.{list_all-append}
 use Rattle.std.proofs.Math.Seq.{drop-cons}
 use Rattle.std.proofs.Math.ListN.{drop_of_length-le}
-use Rattle.js_machine.specs.Events.{Heap, Tree, Run}
-use Rattle.js_machine.specs.Simple.{in_turn}
-use Rattle.js_machine.specs.Runs.{walk}
+use Rattle.simple_runs.specs.Events.{Heap, Tree, Run}
+use Rattle.simple_runs.specs.Simple.{in_turn}
+use Rattle.simple_runs.specs.Runs.{walk}
 use Rattle.prepack_core.specs.declared.evaluate.Departure.{Departure}
 use Rattle.prepack_core.specs.declared.evaluate.Stop.{Stop}
 use Rattle.prepack_core.specs.declared.evaluate.Stop.TheVariants as stop

@@ -9,9 +9,9 @@ use Rattle.js_value.specs.declared.primitive.Primitive.{Primitive}
 use Rattle.js_value.specs.declared.why.Why.{Why}
 use Rattle.js_tree.specs.declared.expression.ExprForm.{ExprForm, fold-ExprForm}
 use Rattle.js_tree.specs.SimpleScripts.{Sum, NoSum, sum_form}
-use Rattle.js_machine.specs.Events.{Heap, Tree, Run, lookup, declare}
-use Rattle.js_machine.specs.Simple.{form_rule, expr_rule}
-use Rattle.js_machine.specs.Runs.{World, Ended, Left, Normal, walk, plain}
+use Rattle.simple_runs.specs.Events.{Heap, Tree, Run, lookup, declare}
+use Rattle.simple_runs.specs.Simple.{form_rule, expr_rule}
+use Rattle.simple_runs.specs.Runs.{Ended, Left, walk, plain}
 use Rattle.js_tree.specs.Simple.{names_in_form, names_in_init}
 use Rattle.js_value.specs.declared.why.Why.TheVariants.{NotANumber}
 use Rattle.prepack_core.specs.declared.value.Number.{Number}
@@ -94,10 +94,10 @@ names_in_declarators ds = flat_map (λ (d : Declarator). names_in_init d.init) d
 abbrev pub declared_after : Heap → List (List ℕ) → Heap
 declared_after heap names = fold (λ h name. declare name h) heap names
 
--- With a budget for each of its nodes, a script ends in every world with these variables, or departs.
+-- With a budget for each of its nodes, a simple script ends by its own rules with these variables, or departs.
 abbrev pub Evaluates : Script → Result Heap Stop → Type 0
-Evaluates s (Ok heap) = (w : World) (n : ℕ) → nodes s ≤ n → plain s w n ≡ Ended [] Normal heap
-Evaluates s (Err (stop.Left d)) = (w : World) (n : ℕ) → nodes s ≤ n → plain s w n ≡ Left d.why d.at
+Evaluates s (Ok heap) = (n : ℕ) → nodes s ≤ n → plain s n ≡ Ended heap
+Evaluates s (Err (stop.Left d)) = (n : ℕ) → nodes s ≤ n → plain s n ≡ Left d.why d.at
 Evaluates s (Err stop.NoMemory) = Unit {0}
 
 -- the report of a run that stopped

@@ -1,5 +1,5 @@
 -- What the program promises of a source and of what it writes for it.
-use Rattle.std.specs.Prelude.{◌≡◌, ℕ, Bool, if◌then◌else◌, List, [], Result, Ok, Err, IsTrue, All, Contains, codes}
+use Rattle.std.specs.Prelude.{◌≡◌, ℕ, ◌≤◌, ◌⊎◌, Bool, if◌then◌else◌, List, [], ◌∷◌, ◌++◌, map, Option, Some, None, Result, Ok, Err, IsTrue, All, Contains, codes}
 use Rattle.js_value.specs.declared.place.Place.{Place}
 use Rattle.js_value.specs.declared.primitive.Primitive.{Primitive}
 use Rattle.js_value.specs.declared.primitive.Primitive.TheVariants as primitive
@@ -10,14 +10,21 @@ use Rattle.js_tree.specs.declared.refusal.Feature.TheVariants.{NotBuilt}
 use Rattle.js_tree.specs.declared.refusal.ReadRefused.{ReadRefused}
 use Rattle.js_tree.specs.declared.refusal.ReadRefused.TheVariants.{Syntax, Unsupported, Nested}
 use Rattle.js_tree.specs.Count.{nodes}
-use Rattle.js_tree.specs.Simple.{declared_names}
+use Rattle.js_tree.specs.Flat.{is_flat}
+use Rattle.js_tree.specs.Mentions.{Names, hoisted_vars, hoisted_functions, names_of}
 use Rattle.js_tree.specs.SimpleScripts.{is_simple}
 use Rattle.js_tree.specs.SimpleTokens.{place}
-use Rattle.js_tree.specs.Residual.{is_residual, IsFresh, snapshot}
+use Rattle.js_tree.specs.Residual.{snapshot}
 use Rattle.js_tree.specs.Text.{script_text}
-use Rattle.js_machine.specs.Events.{Heap}
-use Rattle.js_machine.specs.Runs.{World, IsClosed, IsTyped, Call, Ended, Normal, plain, Stopped, Leaves, open_run, IsWhole, EndsWithin, EndsOrWants}
-use Rattle.js_machine.specs.Listing.{Row, listing, IsLeft, Agree}
+use Rattle.plain_heap.specs.Heap.{Heap}
+use Rattle.plain_heap.specs.Values.{Prim}
+use Rattle.js_machine.specs.Machine.Choices.{Stopped, Leaves, open_run, IsWhole, EndsWithin, EndsOrWants}
+use Rattle.residual_form.specs.Form.{is_residual, is_fresh}
+use Rattle.script_text.specs.CodeLine.{code_text}
+use Rattle.js_machine.specs.Machine.Listed.{Listed, ListedProperty, DataLine, Row, RealmRow, listing, Agree}
+use Rattle.js_machine.specs.Machine.Numbers.{global}
+use Rattle.js_machine.specs.Machine.Walks.{World, HostEvent, Outcome, Ended, Left, Normally, plain}
+use Rattle.js_machine.specs.Machine.Worlds.{IsClosed, IsTyped}
 use Rattle.script_reader.specs.Reads.{reads}
 use Rattle.prepack_core.specs.declared.report.Report.{Report}
 use Rattle.prepack_core.specs.declared.report.Report.TheVariants as report
@@ -35,13 +42,33 @@ taken text = if_built (reads text 200)
 
 -- ---- residuals
 
--- each line of the global object's row is a declared name that doesn't hold the string `__proto__`
-abbrev pub AreVariables : Script → Heap → Type 0
-AreVariables s heap = All (λ (p : List ℕ × Primitive). Contains (declared_names s.body) p.0 × (p.1 ≡ primitive.Text (codes "__proto__") → ⊥)) heap
+abbrev pub IsLeft : Outcome → Type 0
+IsLeft (Left why at) = Unit {0}
+IsLeft _ = ⊥
+
+-- 10.5: the variables and the functions of the global code
+abbrev pub declared_names : Script → Names
+declared_names s = hoisted_vars s.body ++ names_of 0 s.funcs (hoisted_functions s.body)
+
+-- the name and the primitive of a line
+abbrev pub variable_in : ListedProperty → Option (List ℕ × Primitive)
+variable_in (DataLine key (Listed (Prim p)) writable enumerable configurable) = Some (key, p)
+variable_in _ = None
+
+-- There is no row but that of the global object, and its lines are these variables: declared names that hold primitives other than the
+-- string `__proto__`.
+pub record AreVariables (s : Script) (rows : List (Row (List ℕ))) (vs : List (List ℕ × Primitive)) : Type 0 where
+  pub fixed : Bool
+  pub others : List ListedProperty
+  pub new : List ListedProperty
+  pub row : rows ≡ RealmRow global fixed [] others new ∷ []
+  pub lines : map variable_in (others ++ new) ≡ map (λ v. Some v) vs
+  pub declared : All (λ (v : List ℕ × Primitive). Contains (declared_names s) v.0 × (v.1 ≡ primitive.Text (codes "__proto__") → ⊥)) vs
 
 -- a script has by itself this listing
-abbrev pub HasListing : Script → List Row → Type 0
-HasListing r rows = (w : World) → (calls : List Call) × (heap : Heap) × (plain r w (nodes r) ≡ Ended calls Normal heap) × (listing heap ≡ rows)
+abbrev pub HasListing : Script → List (Row (List ℕ)) → Type 0
+HasListing r rows =
+    (w : World) → (calls : List HostEvent) × (h : Heap) × (plain r w (nodes r) ≡ Ended calls Normally h) × (listing code_text r h Normally ≡ rows)
 
 -- The text written is a residual of the source, under a budget of steps for the source.
 pub record IsResidualOf (n : ℕ) (source written : List ℕ) : Type 0 where
@@ -53,28 +80,35 @@ pub record IsResidualOf (n : ℕ) (source written : List ℕ) : Type 0 where
   pub residual : Script
   pub reads_back : reads written 1024 ≡ Ok residual
   pub form : IsTrue (is_residual residual)
-  pub fresh : IsFresh residual script
+  pub fresh : IsTrue (is_fresh residual script)
   pub text : written ≡ script_text residual
   -- In every world in which the source's run doesn't leave the profile, both end, with the same host calls, the same completion
   -- and equal listings. The residual takes no more steps than it has nodes.
-  pub alike : (w : World) → IsTyped w script → (IsLeft (plain script w n) → ⊥) → Agree (plain script w n) (plain residual w (nodes residual))
+  pub alike : (w : World) → IsTyped w script → (IsLeft (plain script w n) → ⊥)
+      → Agree code_text script (plain script w n) residual (plain residual w (nodes residual))
   -- along every list of choices the source ends or wants a choice
-  pub paths : (choices : List Bool) → EndsOrWants (open_run script choices n)
+  pub paths : (choices : List Bool) → EndsOrWants (open_run script choices n).came_to
   -- where a closed source leaves variables alone, the residual is their `var` statement
-  pub variables : IsClosed script → (w : World) (calls : List Call) (heap : Heap) → plain script w n ≡ Ended calls Normal heap → AreVariables script heap
-      → HasListing (snapshot heap) (listing heap) → written ≡ script_text (snapshot heap)
+  pub variables : IsClosed script → (w : World) (calls : List HostEvent) (h : Heap) (vs : List (List ℕ × Primitive)) → plain script w n ≡ Ended calls Normally h
+      → AreVariables script (listing code_text script h Normally) vs → HasListing (snapshot vs) (listing code_text script h Normally) → written ≡ script_text (snapshot vs)
   -- where it leaves nothing, nothing is written
-  pub nothing : IsClosed script → (w : World) (calls : List Call) (heap : Heap) → plain script w n ≡ Ended calls Normal heap → listing heap ≡ [] → written ≡ []
+  pub nothing : IsClosed script → (w : World) (calls : List HostEvent) (h : Heap) → plain script w n ≡ Ended calls Normally h
+      → listing code_text script h Normally ≡ [] → written ≡ []
 
 -- ---- sources without a residual
 
 -- the source is a script whose run along these choices, all of which it takes, stops at a place, since it leaves the profile there
 abbrev pub IsStuck : ℕ → List ℕ → Place → Why → List Bool → Type 0
-IsStuck n source at why choices = (s : Script) × (taken source ≡ Ok s) × IsWhole s choices n × (open_run s choices n ≡ Stopped (Leaves why) at)
+IsStuck n source at why choices = (s : Script) × (taken source ≡ Ok s) × IsWhole s choices n × ((open_run s choices n).came_to ≡ Stopped (Leaves why) at)
+
+-- Along every list of choices a script ends or wants a choice; all these runs together take few steps, or it is flat and has few nodes.
+pub record Finishes (s : Script) (n : ℕ) : Type 0 where
+  pub ends : (choices : List Bool) → EndsOrWants (open_run s choices n).came_to
+  pub few : EndsWithin s n ⊎ (IsTrue (is_flat s) × (nodes s ≤ n))
 
 -- the source is a script that ends within the budget
 abbrev pub IsFinished : ℕ → List ℕ → Type 0
-IsFinished n source = (s : Script) × (taken source ≡ Ok s) × EndsWithin s n
+IsFinished n source = (s : Script) × (taken source ≡ Ok s) × Finishes s n
 
 -- the source is no script, at this place
 abbrev pub IsNoScript : List ℕ → Place → Type 0

@@ -2,7 +2,7 @@
 use Rattle.std.specs.Prelude.{ℕ, List, map}
 use Rattle.js_value.specs.declared.primitive.Primitive.{Primitive}
 use Rattle.js_value.specs.declared.primitive.Primitive.TheVariants as primitive
-use Rattle.js_machine.specs.Events.{Heap}
+use Rattle.simple_runs.specs.Events.{Heap}
 use Rattle.prepack_core.specs.declared.value.Value.{Value}
 use Rattle.prepack_core.specs.declared.value.Value.TheVariants.{Undefined, Number}
 

@@ -7,10 +7,11 @@ ghost use Rattle.prepack_core.specs.Promises.{IsResidualOf, IsReason};
 use crate::evaluate::{Stop, evaluate};
 use crate::report::Report;
 use crate::residual::residual_text;
-use js_machine::snapshot_law;
 use js_tree::{Feature, ReadRefused};
 use js_value::{NoMemory, Place};
+use residual_form::small_form_law;
 use script_reader::{few_nodes_law, is_simple, read, residual_law};
+use simple_runs::{simple_listing_law, simple_run_law, snapshot_law};
 use std::alloc::Global;
 
 /// At most this many parts of a source are open at once, and no tree of it is higher.
@@ -64,13 +65,16 @@ pub fn answer(alloc: Global, steps: u64, source: &[u8]) -> Result<Vec<u8>, Repor
     if !is_simple(alloc, &script)? {
         return Err(Report::Unsupported(Place(0), Feature::NotBuilt));
     }
-    // Laws of the definitions, with nothing to run: the budget is enough for a simple script of a text of this size, and the
-    // text below reads back and rebuilds the variables.
+    // Laws of the definitions, with nothing to run: the budget is enough for a simple script of a text of this size, its run by
+    // the rules of the whole language is that by its own, and the text below reads back and rebuilds the variables.
     few_nodes_law();
+    simple_run_law();
+    simple_listing_law();
     match evaluate(alloc, &script) {
         Err(stop) => Err(report_of(stop)),
         Ok(variables) => {
             snapshot_law();
+            small_form_law();
             residual_law();
             Ok(residual_text(alloc, &variables)?)
         }

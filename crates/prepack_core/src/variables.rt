@@ -4,8 +4,8 @@ ghost use Rattle.std.specs.Map.{keys_of};
 ghost use Rattle.std.specs.Str.{bytes_eq};
 ghost use Rattle.std.specs.Option.{option_map};
 ghost use Rattle.js_tree.specs.SimpleTokens.{is_simple_name};
-ghost use Rattle.js_machine.specs.Events as machine;
-ghost use Rattle.js_machine.specs.Readable.{is_readable};
+ghost use Rattle.simple_runs.specs.Events as machine;
+ghost use Rattle.simple_runs.specs.Readable.{is_readable};
 ghost use Rattle.prepack_core.specs.Values.{primitive_of};
 
 use crate::value::Value;
@@ -21,7 +21,7 @@ pub struct Variables {
 }
 
 impl Model for Variables {
-    ghost use Rattle.js_machine.specs.Events.{Heap};
+    ghost use Rattle.simple_runs.specs.Events.{Heap};
 
     ghost Value = { Heap };
 

@@ -14,7 +14,7 @@ use Rattle.js_grammar.specs.Rest.{repeat}
 use Rattle.js_tree.specs.Mentions.{mentions}
 use Rattle.js_grammar.specs.Heights.{is_within, is_stmt_within}
 use Rattle.js_grammar.specs.Reading.{read, read_by}
-use Rattle.js_machine.specs.Readable.{is_readable, placed}
+use Rattle.simple_runs.specs.Readable.{is_readable, placed}
 use Rattle.script_reader.specs.Reads.{read_tokens, reads}
 use Rattle.script_reader.proofs.ResidualTokens.{residual_tokens, lexed-snapshot}
 use Rattle.script_reader.proofs.ResidualReading.{elements-read}

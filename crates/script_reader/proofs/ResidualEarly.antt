@@ -18,8 +18,8 @@ use Rattle.js_tree.specs.Simple.{literal, minus, var_at}
 use Rattle.js_tree.specs.Early.{At, Places, places_in, breaks, continues, returns, early_fault}
 use Rattle.js_tree.specs.Mentions.{Mention, Mentioned, FieldMentions, maybe_mentions, declarator_mentions, body_mentions, mentions}
 use Rattle.js_grammar.specs.Heights.{body_of, or_true, parts_fit, stmt_parts_fit, is_within, is_stmt_within}
-use Rattle.js_machine.proofs.Forms.{fold-literal, fold-minus}
-use Rattle.js_machine.specs.Readable.{constant_at, variables_at, place_behind, placed}
+use Rattle.simple_runs.proofs.Forms.{fold-literal, fold-minus}
+use Rattle.simple_runs.specs.Readable.{constant_at, variables_at, place_behind, placed}
 
 -- ---- heights
 

@@ -34,7 +34,7 @@ use Rattle.js_grammar.specs.Declarators.{initialiser, more_declarators, declarat
 use Rattle.js_grammar.specs.Statements.{var_behind, statement, element}
 use Rattle.js_tree.specs.Residual.{variable}
 use Rattle.js_tree.specs.Text.{declarator_text}
-use Rattle.js_machine.specs.Readable.{constant_at, variable_at, variables_at, place_behind, placed, is_plain_value, is_readable_variable, is_readable}
+use Rattle.simple_runs.specs.Readable.{constant_at, variable_at, variables_at, place_behind, placed, is_plain_value, is_readable_variable, is_readable}
 use Rattle.std.specs.Option.{option_or}
 use Rattle.std.specs.Str.{bytes_eq}
 use Rattle.std.specs.Fmt.{decimal}

@@ -35,9 +35,9 @@ use Rattle.js_tree.specs.SimpleTokens as simple
 use Rattle.js_tree.specs.SimpleTokens.{place, is_taken, is_simple_name}
 use Rattle.js_tree.specs.Lexing.{is_name_start, is_name_part, width, units, is_proto, token, word, lookup, reserved_word, name_or_reserved, name, number, whole, value, begins_hexadecimal, begins_exponent, decimal as decimal_at, longest_punctuator, scan_token, scan, Lexed, with_front, kept, line_after, going_on, lex_from, lexed}
 use Rattle.js_lex.proofs.Going.{front_front, lexed_text}
-use Rattle.js_machine.proofs.Lexing.{IsLiteral, IsLiteral-decimal, safe_negsuc, behind_sign-literal}
-use Rattle.js_machine.proofs.Texts.{value_text, init_text-constant, script_text-var}
-use Rattle.js_machine.specs.Readable.{is_plain_value, is_readable_variable, is_readable, place_behind}
+use Rattle.simple_runs.proofs.Literals.{IsLiteral, IsLiteral-decimal, safe_negsuc, behind_sign-literal}
+use Rattle.simple_runs.proofs.Texts.{value_text, init_text-constant, script_text-var}
+use Rattle.simple_runs.specs.Readable.{is_plain_value, is_readable_variable, is_readable, place_behind}
 use Rattle.script_reader.proofs.Characters.{IsAscii-all, all_ascii, below, chars-ascii, width-ascii, units-ascii, part_ascii, start-simple, part-simple, start_no_space, start_no_line_end, start_no_slash, digit_no_space, digit_no_line_end, digit_no_slash, digit_ascii, digit_no_start}
 
 -- ---- pieces of a text

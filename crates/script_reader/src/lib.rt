@@ -13,7 +13,7 @@ ghost use Rattle.js_tree.specs.Count.{nodes};
 ghost use Rattle.js_tree.specs.Residual.{snapshot};
 ghost use Rattle.js_tree.specs.SimpleScripts as simple;
 ghost use Rattle.js_tree.specs.Text.{script_text};
-ghost use Rattle.js_machine.specs.Readable.{is_readable, placed};
+ghost use Rattle.simple_runs.specs.Readable.{is_readable, placed};
 ghost use Rattle.script_reader.specs.Reads.{reads};
 
 pub use script::{is_simple, read};

@@ -204,9 +204,11 @@ module _ {C : Type 0} (code : FuncNo → Names → C) where
       let queue = queue_of free h ending in
       filter differs (flat_map (row_of free h queue) queue)
 
-  -- that of a run of a script
+-- ---- the listing of what a script leaves, with the code of each script's functions, whose numbers mean nothing in another script
+
+module _ {C : Type 0} (code : Script → FuncNo → Names → C) where
   abbrev pub listing : Script → Heap → Ending → List (Row C)
-  listing script h ending = listing_by (free_names script) h ending
+  listing script h ending = listing_by (code script) (free_names script) h ending
 
   -- ---- agreement of two runs: the same host calls, both ended normally or both threw the same as it is listed, and equal listings
 

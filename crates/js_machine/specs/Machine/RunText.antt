@@ -1,16 +1,19 @@
 -- The text of a run: its host calls, how it ended, and its listing.
-use Rattle.std.specs.Prelude.{ℕ, Bool, if◌then◌else◌, List, [], ◌∷◌, ◌++◌, codes}
+use Rattle.std.specs.Prelude.{ℕ, Bool, if◌then◌else◌, List, [], ◌∷◌, ◌++◌, codes, Option, Some, None}
 use Rattle.std.specs.Fmt.{decimal}
 use Rattle.std.specs.List.{flat_map}
 use Rattle.js_value.specs.Conversions.{to_text}
 use Rattle.js_value.specs.Texts.{quoted}
 use Rattle.js_value.specs.declared.primitive.Primitive.TheVariants as primitive
+use Rattle.js_tree.specs.Mentions.{free_names}
+use Rattle.js_tree.specs.declared.statement.Script.{Script}
 use Rattle.plain_heap.specs.Heap.{Key}
 use Rattle.plain_heap.specs.Methods.{or_value}
 use Rattle.plain_heap.specs.Values.{Value, Prim, Absent}
-use Rattle.js_machine.specs.Machine.Listed.{Listed, NewObject, RealmObject, ListedValue, ListedProperty, DataLine, AccessorLine, Sort, PlainObject, ArrayObject, FunctionObject, Row, NewRow, CellRow, RealmRow, Item, listed_value}
+use Rattle.js_machine.specs.Machine.Listed.{listing, queue_of, Listed, NewObject, RealmObject, ListedValue, ListedProperty, DataLine, AccessorLine, Sort, PlainObject, ArrayObject, FunctionObject, Row, NewRow, CellRow, RealmRow, Item, listed_value}
 use Rattle.js_machine.specs.Machine.Realm.{realm_name}
-use Rattle.js_machine.specs.Machine.Walks.{HostEvent, Ending, Normally, Thrown}
+use Rattle.js_machine.specs.Machine.Walks.{HostEvent, Ending, Normally, Thrown, Outcome, Ended}
+use Rattle.script_text.specs.CodeLine.{code_text}
 
 -- 10 is the line feed
 abbrev pub line : List ℕ → List ℕ
@@ -86,3 +89,10 @@ module _ {C : Type 0} (code_text : C → List ℕ) where
   -- the queue is that of the walk by which the rows were listed
   unfoldable pub run_text : List HostEvent → List Item → Ending → List (Row C) → List ℕ
   run_text calls queue ending rows = flat_map call_text calls ++ ending_text queue ending ++ flat_map row_text rows
+
+-- ---- the text of the run of a script that ended, with each function's code on one line
+
+abbrev pub outcome_text : Script → Outcome → Option (List ℕ)
+outcome_text script (Ended calls ending h) =
+    Some (run_text (λ line. line) calls (queue_of (free_names script) h ending) ending (listing code_text script h ending))
+outcome_text script _ = None

@@ -1,6 +1,7 @@
 use Rattle.std.proofs.Common.{sym, ◌∙◌, length}
 use Rattle.std.proofs.lemmas.Result.{err_from_is_err_and}
 use Rattle.js_tree.specs.Count.{nodes}
+use Rattle.simple_runs.specs.Readable.{placed}
 use Rattle.prepack_core.proofs.Promising.{few_steps, refused_reason, taken-simple, taken-not_built, residual_of, reason_of}
 use Rattle.prepack_core.proofs.answer.answer.Goals as goal
 
@@ -18,7 +19,7 @@ returns-in-Err-clause-err c =
     let s = c.in_ok-script.script in
     let takes = taken-simple c.args.source.now s c.in_ok-is_simple.field-0 c.in_ok-script.ensures c.in_ok-is_simple.ensures c.if-not-branch.false in
     let few = c.few_nodes_law.ensures c.args.source.now 200 s c.in_ok-script.ensures (sym c.in_ok-is_simple.ensures ∙ c.if-not-branch.false) in
-    reason_of c.args.steps c.args.source.now s c.in-Err.stop c.report_of.result takes (few_steps (nodes s) (length c.args.source.now) c.args.steps few c.requires.short c.requires.enough)
+    reason_of c.args.steps c.args.source.now s c.in-Err.stop c.report_of.result c.simple_run_law.ensures (sym c.in_ok-is_simple.ensures ∙ c.if-not-branch.false) takes (few_steps (nodes s) (length c.args.source.now) c.args.steps few c.requires.short c.requires.enough)
     c.in-Err.ensures c.report_of.ensures
 
 pub returns-clause-ok : goal.returns-clause-ok
@@ -28,8 +29,9 @@ returns-clause-ok c =
     let few = c.few_nodes_law.ensures c.args.source.now 200 s c.in_ok-script.ensures (sym c.in_ok-is_simple.ensures ∙ c.if-not-branch.false) in
     let law = c.snapshot_law.ensures in
     let vs = c.in-Ok.variables in
+    let whole = c.small_form_law.ensures in
     let readable = c.residual_text.ensures.readable in
-    residual_of c.args.steps c.args.source.now c.in_ok-residual_text-in-Ok.field-0.items s vs c.in_ok-script.ensures takes
+    residual_of c.args.steps c.args.source.now c.in_ok-residual_text-in-Ok.field-0.items s vs c.simple_run_law.ensures c.simple_listing_law.ensures (sym c.in_ok-is_simple.ensures ∙ c.if-not-branch.false) c.in_ok-script.ensures takes
     (few_steps (nodes s) (length c.args.source.now) c.args.steps few c.requires.short c.requires.enough) c.in-Ok.ensures
-    (c.in_ok-residual_text-in-Ok.ensures.text ∙ sym (law.spelled vs readable)) (c.residual_law.ensures.reads_back vs readable) (law.residual vs) (law.fresh vs s) (law.same_text vs readable)
+    (c.in_ok-residual_text-in-Ok.ensures.text ∙ sym (law.spelled vs readable)) (c.residual_law.ensures.reads_back vs readable) (whole.form (placed vs) (law.residual vs)) (whole.fresh (placed vs) s (law.residual vs)) (law.same_text vs readable)
     (λ w. law.rebuilds vs w readable c.residual_text.ensures.distinct)

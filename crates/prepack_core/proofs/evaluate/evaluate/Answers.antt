@@ -5,7 +5,7 @@ use Rattle.js_tree.specs.Count.{in_stmt}
 use Rattle.js_tree.specs.Simple.{names_in_init, declarators_in, declared_names}
 use Rattle.js_tree.specs.SimpleScripts.{is_simple_statement}
 use Rattle.js_tree.specs.declared.statement.StmtForm.{out-StmtForm}
-use Rattle.js_machine.specs.Simple.{statement, declared}
+use Rattle.simple_runs.specs.Simple.{statement, declared}
 use Rattle.prepack_core.specs.Evaluates as spec
 use Rattle.prepack_core.proofs.Turns.{remains_next, remains_stops, remains_none, list_all-at, all_in_parts}
 use Rattle.prepack_core.proofs.Bound.{are_bound-kept, keeps_both}

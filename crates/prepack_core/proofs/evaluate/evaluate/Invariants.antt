@@ -1,5 +1,5 @@
 use Rattle.js_tree.specs.Count.{in_stmt}
-use Rattle.js_machine.specs.Simple.{statement}
+use Rattle.simple_runs.specs.Simple.{statement}
 use Rattle.prepack_core.specs.Evaluates.{KeepsBound}
 use Rattle.prepack_core.proofs.Turns.{Remains}
 use Rattle.prepack_core.proofs.evaluate.evaluate.Given as goal

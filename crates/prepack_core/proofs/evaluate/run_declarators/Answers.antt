@@ -1,6 +1,6 @@
 use Rattle.std.proofs.Common.{arith}
 use Rattle.std.proofs.lemmas.Result.{err_from_is_err_and}
-use Rattle.js_machine.specs.Simple.{declarator_rule}
+use Rattle.simple_runs.specs.Simple.{declarator_rule}
 use Rattle.js_tree.specs.Count.{in_maybe}
 use Rattle.js_tree.specs.Simple.{names_in_init}
 use Rattle.prepack_core.specs.Evaluates as spec

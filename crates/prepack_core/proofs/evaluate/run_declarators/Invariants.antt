@@ -1,4 +1,4 @@
-use Rattle.js_machine.specs.Simple.{declarator_rule}
+use Rattle.simple_runs.specs.Simple.{declarator_rule}
 use Rattle.js_tree.specs.Count.{in_maybe}
 use Rattle.prepack_core.specs.Evaluates.{KeepsBound}
 use Rattle.prepack_core.proofs.Turns.{Remains}

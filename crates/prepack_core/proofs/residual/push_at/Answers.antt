@@ -1,7 +1,7 @@
 use Rattle.std.proofs.Common.{◌++◌, ap, sym, ◌∙◌}
 use Rattle.std.specs.Prelude.{codes, if◌then◌else◌, ◌==◌}
 use Rattle.std.proofs.lemmas.Result.{on_ok_weaker}
-use Rattle.js_machine.specs.Readable.{variable_text}
+use Rattle.simple_runs.specs.Readable.{variable_text}
 use Rattle.prepack_core.specs.Values.{primitive_of}
 use Rattle.prepack_core.proofs.Listed.{listed-more}
 use Rattle.prepack_core.proofs.residual.push_at.Goals as goal

@@ -1,5 +1,5 @@
 use Rattle.std.proofs.Common.{◌≡◌, take}
-use Rattle.js_machine.specs.Readable.{listed}
+use Rattle.simple_runs.specs.Readable.{listed}
 use Rattle.prepack_core.proofs.residual.residual_text.Given as goal
 
 abbrev pub invariant-loop-i : goal.invariant-loop-i

@@ -1,6 +1,6 @@
 use Rattle.std.proofs.Common.{ap, ◌∙◌}
 use Rattle.std.specs.Option.{option_map}
-use Rattle.js_machine.specs.Events as machine
+use Rattle.simple_runs.specs.Events as machine
 use Rattle.prepack_core.specs.Values.{primitive_of}
 use Rattle.prepack_core.proofs.Bindings.{shown-lookup}
 use Rattle.prepack_core.proofs.variables.Variables.get.Goals as goal

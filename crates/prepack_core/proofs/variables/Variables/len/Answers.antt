@@ -1,5 +1,5 @@
 use Rattle.std.proofs.Common.{ap, sym, ◌∙◌}
-use Rattle.js_machine.specs.Readable.{is_readable}
+use Rattle.simple_runs.specs.Readable.{is_readable}
 use Rattle.prepack_core.proofs.Bindings.{shown-readable, keys-shown}
 use Rattle.prepack_core.proofs.variables.Variables.len.Goals as goal
 

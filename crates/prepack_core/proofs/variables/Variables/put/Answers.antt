@@ -1,6 +1,6 @@
 use Rattle.std.proofs.Common.{ap, ◌∙◌}
 use Rattle.js_tree.specs.SimpleTokens.{is_simple_name}
-use Rattle.js_machine.specs.Events as machine
+use Rattle.simple_runs.specs.Events as machine
 use Rattle.prepack_core.specs.Values.{primitive_of, shown}
 use Rattle.prepack_core.proofs.Bindings.{shown-insert, all-insert}
 use Rattle.prepack_core.proofs.variables.Variables.put.Goals as goal

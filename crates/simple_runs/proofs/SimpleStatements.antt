@@ -19,18 +19,18 @@ use Rattle.js_tree.specs.declared.statement.StmtForm.{StmtForm, out-StmtForm}
 use Rattle.js_tree.specs.declared.statement.StmtForm.TheOpen.{StmtForm-F}
 use Rattle.plain_heap.specs.Heap.{Heap, Properties, ObjectState, lookup}
 use Rattle.plain_heap.specs.Values.{Value, ObjNo}
-use Rattle.js_machine.specs.Events as simple
-use Rattle.js_machine.specs.Simple as rules
+use Rattle.simple_runs.specs.Events as simple
+use Rattle.simple_runs.specs.Simple as rules
 use Rattle.js_machine.specs.Machine.Expressions.{Flow, Normal, site}
 use Rattle.js_machine.specs.Machine.Levels.{Setting, within, ev_of}
 use Rattle.js_machine.specs.Machine.Names.{NameReference, OnGlobal, global_context, put_value}
 use Rattle.js_machine.specs.Machine.Statements as FF
 use Rattle.js_machine.specs.Machine.Statements.{statements, stmt_rule}
 use Rattle.js_machine.specs.Machine.Trees.{Tree, Step}
-use Rattle.js_machine.proofs.GlobalNames.{heap_with, resolved, written}
+use Rattle.simple_runs.proofs.GlobalNames.{heap_with, resolved, written}
 use Rattle.js_machine.proofs.Opening.{at_stmt}
-use Rattle.js_machine.proofs.SimpleExpressions.{Fits, all_fit, is_sum, Follows, follows, evaluates}
-use Rattle.js_machine.proofs.Variables.{is_bound, is_plain, are_plain, among_all, all_among, all_more, bound_put, plain_put}
+use Rattle.simple_runs.proofs.SimpleExpressions.{Fits, all_fit, is_sum, Follows, follows, evaluates}
+use Rattle.simple_runs.proofs.Variables.{is_bound, is_plain, are_plain, among_all, all_among, all_more, bound_put, plain_put}
 
 -- a sum of at most twenty terms has at most 59 nodes
 short_few : (s : Sum) (n : ℕ) → Fits s n → is_short s ≡ true → n ≤ 59
@@ -38,7 +38,7 @@ short_few NoSum n h short = absurd (cc)
 short_few LiteralAlone n h short = omega (arith, h)
 short_few (Terms k) n h short = omega (arith, h, leb-true k 20 short)
 
-short_sum : (s : Sum) → is_short s ≡ true → is_sum s ≡ true
+pub short_sum : (s : Sum) → is_short s ≡ true → is_sum s ≡ true
 short_sum NoSum short = short
 short_sum LiteralAlone short = refl
 short_sum (Terms k) short = refl

@@ -21,13 +21,13 @@ use Rattle.js_tree.specs.declared.statement.StmtForm.TheVariants.{outs-Var}
 use Rattle.js_tree.specs.SimpleTokens.{place}
 use Rattle.js_tree.specs.Simple.{literal, minus, var_at, script_of, declared_names}
 use Rattle.js_tree.specs.Count.{of_form, of_field, of_expr, in_expr, in_maybe, in_declarators, nodes}
-use Rattle.js_machine.specs.Events.{Heap, Tree, Step, End, Run, give, step, lookup, put, put_unless, declare, or_leave}
-use Rattle.js_machine.specs.Simple.{minus_rule, form_rule, expr_rule, evaluation, declarator_rule, in_turn, declarators_rule, statement_rule, statement, declared, script_tree}
-use Rattle.js_machine.specs.Runs.{World, Ended, Normal, walk, plain}
-use Rattle.js_machine.proofs.Forms.{fold-literal, fold-minus, in_stmt-var}
-use Rattle.js_machine.proofs.Reading.{declarators_of-var}
-use Rattle.js_machine.proofs.Variables.{declare_all}
-use Rattle.js_machine.specs.Readable.{is_plain_value, is_readable_variable, is_readable, constant_at, variables_at, place_behind, placed}
+use Rattle.simple_runs.specs.Events.{Heap, Tree, Step, End, Run, give, step, lookup, put, put_unless, declare, or_leave}
+use Rattle.simple_runs.specs.Simple.{minus_rule, form_rule, expr_rule, evaluation, declarator_rule, in_turn, declarators_rule, statement_rule, statement, declared, script_tree}
+use Rattle.simple_runs.specs.Runs.{Ended, walk, plain}
+use Rattle.simple_runs.proofs.Forms.{fold-literal, fold-minus, in_stmt-var}
+use Rattle.simple_runs.proofs.Reading.{declarators_of-var}
+use Rattle.simple_runs.proofs.Variables.{declare_all}
+use Rattle.simple_runs.specs.Readable.{is_plain_value, is_readable_variable, is_readable, constant_at, variables_at, place_behind, placed}
 
 -- ---- heaps
 
@@ -205,15 +205,15 @@ script_tree-var at ds heap e =
     ap (λ h. in_turn statement (var_at at ds ∷ []) h (λ _ h. End h)) e ∙ ap (λ l. Step at (statement_rule l heap (λ _ h. End h))) (outs-Var ds)
 
 -- the empty script ends at once
-walk-nothing : walk 0 (script_tree (script_of [])) ≡ Ended [] Normal []
+walk-nothing : walk 0 (script_tree (script_of [])) ≡ Ended []
 unfolding script_tree
 walk-nothing = refl
 
 -- the residual of variables with distinct names rebuilds them
-pub plain-placed : (vs : List (List ℕ × Primitive)) (w : World) → is_readable vs ≡ true → IsDistinct bytes_eq (keys_of vs) → plain (placed vs) w (nodes (placed vs)) ≡ Ended [] Normal vs
+pub plain-placed : (vs : List (List ℕ × Primitive)) → is_readable vs ≡ true → IsDistinct bytes_eq (keys_of vs) → plain (placed vs) (nodes (placed vs)) ≡ Ended vs
 unfolding plain placed
-plain-placed [] w readable distinct = walk-nothing
-plain-placed (v ∷ vs) w readable distinct =
+plain-placed [] readable distinct = walk-nothing
+plain-placed (v ∷ vs) readable distinct =
     let ds = variables_at 4 (v ∷ vs) in
     let heap : declared (declared_names (var_at (place 0) ds ∷ [])) ≡ map undefined_of (v ∷ vs) =
     ap (λ all. declared (flat_map (λ (d : Declarator). d.name ∷ []) all)) (declarators_of-var (place 0) ds) ∙ ap declared (names-variables (v ∷ vs) 4) ∙ declared-distinct (v ∷ vs) distinct in

@@ -9,7 +9,7 @@ use Rattle.std.proofs.lemmas.Slice.Eq.{bytes_eq-Decides}
 use Rattle.js_value.specs.declared.primitive.Primitive.{Primitive}
 use Rattle.js_value.specs.declared.primitive.Primitive.TheVariants as primitive
 use Rattle.js_tree.specs.Simple.{is_among}
-use Rattle.js_machine.specs.Events.{Heap, lookup, put, put_unless, declare}
+use Rattle.simple_runs.specs.Events.{Heap, lookup, put, put_unless, declare}
 
 abbrev pub is_bound : Heap → List ℕ → Bool
 is_bound vs name = is_some (lookup name vs)

@@ -28,8 +28,8 @@ use Rattle.js_tree.specs.declared.expression.ExprForm.TheFolds.{map-ExprForm, fo
 use Rattle.js_tree.proofs.Folds.{fold-layer, fold-of_expr}
 use Rattle.plain_heap.specs.Heap.{Heap, Properties, ObjectState, lookup}
 use Rattle.plain_heap.specs.Values.{Value, Prim, ObjNo}
-use Rattle.js_machine.specs.Events as simple
-use Rattle.js_machine.specs.Simple as rules
+use Rattle.simple_runs.specs.Events as simple
+use Rattle.simple_runs.specs.Simple as rules
 use Rattle.js_machine.specs.Machine.Expressions as EE
 use Rattle.js_machine.specs.Machine.Expressions.{Ev, site, binary_value, unary_value, expr_rule}
 use Rattle.js_machine.specs.Machine.Levels.{Setting, within, ev_of}
@@ -37,9 +37,9 @@ use Rattle.js_machine.specs.Machine.Names.{global_context, get_value}
 use Rattle.js_machine.specs.Machine.Objects.{Site}
 use Rattle.js_machine.specs.Machine.Operators as BB
 use Rattle.js_machine.specs.Machine.Trees.{Tree, Step, Leave, End}
-use Rattle.js_machine.proofs.GlobalNames.{heap_with, resolved, read}
+use Rattle.simple_runs.proofs.GlobalNames.{heap_with, resolved, read}
 use Rattle.js_machine.proofs.Opening.{at_expr}
-use Rattle.js_machine.proofs.Variables.{is_bound, is_plain, are_plain, plain_found}
+use Rattle.simple_runs.proofs.Variables.{is_bound, is_plain, are_plain, plain_found}
 
 -- ---- one layer of an expression
 
@@ -53,10 +53,10 @@ module _ (A B C : Type 0) (form : ExprForm-F A B C → A) (field : Field-F A B C
   pub by_layer : (e : Expr) (l : Layer) → out-ExprForm e.form ≡ l → fold-Expr A B C form field expr e ≡ expr (record { at = e.at; form = at_layer l })
   by_layer e l is = fold-of_expr A B C form field expr e ∙ ap (λ a. expr (record { at = e.at; form = a })) (fold-layer A B C form field expr e.form l is)
 
-abbrev sum_at : Layer → Sum
+abbrev pub sum_at : Layer → Sum
 sum_at = at_layer Sum (Unit {0}) Sum sum_form (λ f. tt) (λ e. e.form)
 
-abbrev nodes_at : Layer → ℕ
+abbrev pub nodes_at : Layer → ℕ
 nodes_at = at_layer ℕ ℕ ℕ of_form of_field of_expr
 
 abbrev names_at : Layer → List (List ℕ)
@@ -108,10 +108,10 @@ fits_layer d below (ExprForm-F.Unary op a) few = fits_unary op (sum_in a) (in_ex
 fits_layer d below (ExprForm-F.Binary op a b) few = fits_binary op (sum_in a) (sum_in b) (in_expr a) (in_expr b) (below a (omega (arith, few))) (below b (omega (arith, few)))
 fits_layer d below _ few = tt
 
-sum_is : (e : Expr) (l : Layer) → out-ExprForm e.form ≡ l → sum_in e ≡ sum_at l
+pub sum_is : (e : Expr) (l : Layer) → out-ExprForm e.form ≡ l → sum_in e ≡ sum_at l
 sum_is = by_layer Sum (Unit {0}) Sum sum_form (λ f. tt) (λ e. e.form)
 
-nodes_are : (e : Expr) (l : Layer) → out-ExprForm e.form ≡ l → in_expr e ≡ nodes_at l + 1
+pub nodes_are : (e : Expr) (l : Layer) → out-ExprForm e.form ≡ l → in_expr e ≡ nodes_at l + 1
 nodes_are = by_layer ℕ ℕ ℕ of_form of_field of_expr
 
 names_are : (e : Expr) (l : Layer) → out-ExprForm e.form ≡ l → names_in e ≡ names_at l
@@ -130,7 +130,7 @@ abbrev pub is_sum : Sum → Bool
 is_sum NoSum = false
 is_sum _ = true
 
-joined_parts : (a b : Sum) → is_sum (joined a b) ≡ true → (is_sum a ≡ true) × (is_sum b ≡ true)
+pub joined_parts : (a b : Sum) → is_sum (joined a b) ≡ true → (is_sum a ≡ true) × (is_sum b ≡ true)
 joined_parts LiteralAlone LiteralAlone h = (h, h)
 joined_parts LiteralAlone (Terms n) h = (h, h)
 joined_parts (Terms m) LiteralAlone h = (h, h)
@@ -138,7 +138,7 @@ joined_parts (Terms m) (Terms n) h = (h, h)
 joined_parts NoSum b h = cc
 joined_parts a NoSum h = cc
 
-negative_part : (a : Sum) → is_sum (negative a) ≡ true → is_sum a ≡ true
+pub negative_part : (a : Sum) → is_sum (negative a) ≡ true → is_sum a ≡ true
 negative_part LiteralAlone h = refl
 negative_part a h = cc
 

@@ -12,15 +12,15 @@ use Rattle.plain_heap.specs.Heap.{Heap, Properties, ObjectState, Plain, lookup, 
 use Rattle.plain_heap.specs.Heap as H
 use Rattle.plain_heap.specs.Methods as M
 use Rattle.plain_heap.specs.Values.{Value, Prim, ObjNo}
-use Rattle.js_machine.specs.Events as simple
+use Rattle.simple_runs.specs.Events as simple
 use Rattle.js_machine.specs.Machine.Functions.{bind_global_var}
 use Rattle.js_machine.specs.Machine.Names.{Reference, NameReference, OnGlobal, global_context, resolve_name, get_value, put_value}
 use Rattle.js_machine.specs.Machine.Numbers.{global}
 use Rattle.js_machine.specs.Machine.Objects as CC
 use Rattle.js_machine.specs.Machine.Objects.{Site}
 use Rattle.js_machine.specs.Machine.Trees.{Tree}
-use Rattle.js_machine.specs.SimpleRuns.{variable}
-use Rattle.js_machine.proofs.GlobalVariables.{of_value, lookup_variables, put_variables, lookup_behind, put_behind, not_taken}
+use Rattle.simple_runs.specs.SimpleRuns.{variable}
+use Rattle.simple_runs.proofs.GlobalVariables.{of_value, lookup_variables, put_variables, lookup_behind, put_behind, not_taken}
 
 proto_taken : is_taken (codes "__proto__") ≡ true
 proto_taken = refl

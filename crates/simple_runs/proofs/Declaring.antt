@@ -8,12 +8,12 @@ use Rattle.js_tree.specs.Simple.{is_among}
 use Rattle.js_tree.specs.SimpleTokens.{is_simple_name}
 use Rattle.plain_heap.specs.Heap.{Heap, Properties, ObjectState, lookup}
 use Rattle.plain_heap.specs.Values.{Value, ObjNo}
-use Rattle.js_machine.specs.Events as simple
+use Rattle.simple_runs.specs.Events as simple
 use Rattle.js_machine.specs.Machine.Functions.{bind_global_var}
 use Rattle.js_machine.specs.Machine.Objects.{Site}
 use Rattle.js_machine.specs.Machine.Trees.{Tree, in_turn}
-use Rattle.js_machine.proofs.GlobalNames.{heap_with, declared}
-use Rattle.js_machine.proofs.Variables.{is_bound, declare_all, among_all, all_more, bound_declare, declare_bound, declare_again}
+use Rattle.simple_runs.proofs.GlobalNames.{heap_with, declared}
+use Rattle.simple_runs.proofs.Variables.{is_bound, declare_all, among_all, all_more, bound_declare, declare_bound, declare_again}
 
 module _ (own : Properties) (prototype : Option ObjNo) (rest : List ObjectState) (free : (name : List ℕ) → is_simple_name name ≡ true → lookup name own ≡ None) where
   abbrev at : simple.Heap → Heap

@@ -1,8 +1,8 @@
--- The listing of a heap, and when two runs agree.
+-- The listing of the variables of a simple script, and when two runs agree.
 use Rattle.std.specs.Prelude.{◌≡◌, ℕ, Bool, true, false, List, [], ◌∷◌, map}
 use Rattle.js_value.specs.declared.primitive.Primitive.{Primitive}
-use Rattle.js_machine.specs.Events.{Heap}
-use Rattle.js_machine.specs.Runs.{Outcome, Ended, Left}
+use Rattle.simple_runs.specs.Events.{Heap}
+use Rattle.simple_runs.specs.Runs.{Outcome, Ended}
 
 -- a property of an object
 pub record Line : Type 0 where
@@ -24,12 +24,7 @@ abbrev pub listing : Heap → List Row
 listing [] = []
 listing (p ∷ ps) = GlobalObject (map line (p ∷ ps)) ∷ []
 
-abbrev pub IsLeft : Outcome → Type 0
-IsLeft (Left why at) = Unit {0}
-IsLeft _ = ⊥
-
--- both ended, with the same host calls, the same completion, and equal listings
+-- both ended, with equal listings
 abbrev pub Agree : Outcome → Outcome → Type 0
-Agree (Ended calls ending heap) (Ended other_calls other_ending other_heap) =
-    (other_calls ≡ calls) × (other_ending ≡ ending) × (listing other_heap ≡ listing heap)
+Agree (Ended heap) (Ended other) = listing other ≡ listing heap
 Agree _ _ = ⊥

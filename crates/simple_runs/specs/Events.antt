@@ -1,4 +1,4 @@
--- What a run does, one event after another, and how runs are put together.
+-- What the run of a simple script does, one event after another, and how runs are put together.
 use Rattle.std.specs.Prelude.{ℕ, if◌then◌else◌, List, [], ◌∷◌, Option, Some, None, Result, Ok, Err, ℤ}
 use Rattle.std.specs.Str.{bytes_eq}
 use Rattle.js_value.specs.declared.place.Place.{Place}
@@ -19,7 +19,7 @@ pub data Tree : Type 0 where
   Leave : Why → Place → Tree
   -- the code ends
   End : Heap → Tree
-  -- a form that has no rule yet
+  -- a form that simple scripts don't have
   NoRule : Tree
 
 -- A run goes from a heap to what comes after its answer.

@@ -13,8 +13,8 @@ use Rattle.js_tree.specs.SimpleTokens.{place}
 use Rattle.js_tree.specs.Simple.{literal, minus, var_at, script_of}
 use Rattle.js_tree.specs.Residual.{constant, variable, snapshot}
 use Rattle.js_tree.specs.Text.{Printed, printed, print_form, at_least, behind_sign, init_text, declarator_text, declarators_text, statement_text, script_text}
-use Rattle.js_machine.proofs.Forms.{fold-literal, fold-minus}
-use Rattle.js_machine.specs.Readable.{is_plain_value, is_readable_variable, is_readable, constant_at, variable_at, variables_at, place_behind, placed}
+use Rattle.simple_runs.proofs.Forms.{fold-literal, fold-minus}
+use Rattle.simple_runs.specs.Readable.{is_plain_value, is_readable_variable, is_readable, constant_at, variable_at, variables_at, place_behind, placed}
 
 -- the text of an initialiser
 abbrev pub value_text : Primitive → List ℕ

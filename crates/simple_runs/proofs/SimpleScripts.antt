@@ -22,9 +22,10 @@ use Rattle.js_tree.specs.declared.statement.StmtForm.TheFolds.{fold_out-StmtForm
 use Rattle.js_tree.specs.declared.statement.StmtForm.TheOpen.{StmtForm-F}
 use Rattle.plain_heap.specs.Heap.{Heap, ObjectState}
 use Rattle.plain_heap.specs.Methods.{get}
-use Rattle.js_machine.specs.Events as simple
-use Rattle.js_machine.specs.Runs as simple_runs
-use Rattle.js_machine.specs.Simple as rules
+use Rattle.simple_runs.specs.Events as simple
+use Rattle.simple_runs.specs.Runs as simple_runs
+use Rattle.simple_runs.specs.Simple as rules
+use Rattle.js_machine.specs.Machine.Choices.{Kept, OpenRun, EndsOrWants, EndsWithin, open_walk, open_steps, open_run}
 use Rattle.js_machine.specs.Machine.Expressions.{site}
 use Rattle.js_machine.specs.Machine.Functions.{enter_global}
 use Rattle.js_machine.specs.Machine.Levels.{Setting, script_tree, script_tree_within, most_active, evaluation, beginning, within}
@@ -34,13 +35,14 @@ use Rattle.js_machine.specs.Machine.Realm.{realm}
 use Rattle.js_machine.specs.Machine.Statements.{statements}
 use Rattle.js_machine.specs.Machine.Trees.{Tree, End, Fail}
 use Rattle.js_machine.specs.Machine.Walks.{World, Ended, Normally, walk, plain, plain_from}
-use Rattle.js_machine.specs.SimpleRuns.{realm_with, Says, SimpleRuns}
-use Rattle.js_machine.proofs.Declaring.{entered}
-use Rattle.js_machine.proofs.GlobalNames.{heap_with, got_value}
-use Rattle.js_machine.proofs.GlobalVariables.{global_own, no_own}
-use Rattle.js_machine.proofs.SimpleExpressions.{Follows}
-use Rattle.js_machine.proofs.SimpleStatements.{is_among_declared, are_among_declared, statements_follow}
-use Rattle.js_machine.proofs.Variables.{declare_all, all_more, declare_all_bound, plain_declare_all}
+use Rattle.simple_runs.specs.SimpleRuns.{realm_with, Says, SaysOpened, SimpleRuns}
+use Rattle.simple_runs.proofs.Declaring.{entered}
+use Rattle.simple_runs.proofs.GlobalNames.{heap_with, got_value}
+use Rattle.simple_runs.proofs.GlobalVariables.{global_own, no_own}
+use Rattle.simple_runs.proofs.NoInputs.{simple_closed, simple_typed}
+use Rattle.simple_runs.proofs.SimpleExpressions.{Follows}
+use Rattle.simple_runs.proofs.SimpleStatements.{is_among_declared, are_among_declared, statements_follow}
+use Rattle.simple_runs.proofs.Variables.{declare_all, all_more, declare_all_bound, plain_declare_all}
 
 -- ---- the names that a simple script declares
 
@@ -138,20 +140,20 @@ among_themselves (n ∷ names) = rw (nat_list_eq_equiv.refl n) (all_more (is_amo
 
 -- ---- the heaps
 
-other_objects : List ObjectState
+pub other_objects : List ObjectState
 other_objects = drop 1 realm.objects
 
-abbrev with_names : simple.Heap → Heap
+abbrev pub with_names : simple.Heap → Heap
 with_names = heap_with global_own (Some object_prototype) other_objects
 
 abbrev FollowsIt : simple.Tree → Tree → Type 0
 FollowsIt = Follows global_own (Some object_prototype) other_objects
 
-starts : realm ≡ with_names []
+pub starts : realm ≡ with_names []
 unfolding realm other_objects
 starts = refl
 
-realm_is : (vs : simple.Heap) → realm_with vs ≡ with_names vs
+pub realm_is : (vs : simple.Heap) → realm_with vs ≡ with_names vs
 unfolding realm realm_with other_objects
 realm_is vs = refl
 
@@ -181,15 +183,54 @@ walk_follows w n (simple.Leave why at) u f = ap (walk w n []) f
 walk_follows w n (simple.End vs) u f = ap (walk w n []) f ∙ ap (Ended [] Normally) (sym (realm_is vs))
 walk_follows w n simple.NoRule u f = absurd f
 
-runs_as_simple : (s : Script) (v : simple_runs.World) (w : World) (n : ℕ) → is_simple s ≡ true → Says (simple_runs.plain s v n) (plain s w n)
-unfolding is_simple simple_runs.plain plain_from script_tree
-runs_as_simple s v w n is =
+open_follows : (n calls : ℕ) (kept : Kept) (choices : List Bool) (t : simple.Tree) (u : Tree) → FollowsIt t u → SaysOpened (simple_runs.opened (simple_runs.walk n t)) choices (open_walk n calls kept choices u)
+open_follows zero calls kept choices (simple.Step at t) u f = ap (open_walk zero calls kept choices) f.1
+open_follows (suc n) calls kept choices (simple.Step at t) u f = rw f.1 (open_follows n calls kept choices t f.0 f.2)
+open_follows n calls kept choices (simple.Leave why at) u f = ap (open_walk n calls kept choices) f
+open_follows n calls kept choices (simple.End vs) u f = ap (open_walk n calls kept choices) f
+open_follows n calls kept choices simple.NoRule u f = absurd f
+
+few_follow : (n calls : ℕ) (kept : Kept) (t : simple.Tree) (u : Tree) → FollowsIt t u → simple_runs.opened (simple_runs.walk n t) ≡ simple_runs.OpenEnded → open_steps calls kept u ≤ n
+few_follow zero calls kept (simple.Step at t) u f ended = cc
+few_follow (suc n) calls kept (simple.Step at t) u f ended = rw f.1 (omega (arith, few_follow n calls kept t f.0 f.2 ended))
+few_follow n calls kept (simple.Leave why at) u f ended = cc
+few_follow n calls kept (simple.End vs) u f ended = rw f (omega arith)
+few_follow n calls kept simple.NoRule u f ended = absurd f
+
+-- ---- the laws
+
+follows_script : (turns : ℕ) (s : Script) → is_simple s ≡ true → FollowsIt (rules.script_tree s) (script_tree turns s realm)
+unfolding is_simple script_tree
+follows_script turns s is =
     let read = and_parts (not s.directive && not (has_functions s.funcs) && list_all is_simple_statement s.body) (reads_declared s.body) is in
     let forms = and_parts (not s.directive && not (has_functions s.funcs)) (list_all is_simple_statement s.body) read.0 in
-    walk_follows w n (rules.script_tree s) (script_tree_within most_active n s realm) (code_follows most_active n s (omega arith) forms.1 read.1)
+    code_follows most_active turns s (omega arith) forms.1 read.1
+
+pub runs_as_simple : (s : Script) (w : World) (n : ℕ) → is_simple s ≡ true → Says (simple_runs.plain s n) (plain s w n)
+unfolding simple_runs.plain plain_from
+runs_as_simple s w n is = walk_follows w n (rules.script_tree s) (script_tree n s realm) (follows_script n s is)
+
+opens_as_simple : (s : Script) (choices : List Bool) (n : ℕ) → is_simple s ≡ true → SaysOpened (simple_runs.open_run s choices n) choices (open_run s choices n)
+unfolding simple_runs.plain simple_runs.open_run open_run
+opens_as_simple s choices n is = open_follows n 0 [] choices (rules.script_tree s) (script_tree n s realm) (follows_script n s is)
+
+ends_as_said : (o : simple_runs.Opened) (choices : List Bool) (r : OpenRun) → o ≡ simple_runs.OpenEnded → SaysOpened o choices r → EndsOrWants r.came_to
+ends_as_said simple_runs.OpenEnded choices r is says = rw says tt
+ends_as_said _ choices r is says = cc
+
+ends_as_simple : (s : Script) (n : ℕ) → is_simple s ≡ true → simple_runs.EndsWithin s n → EndsWithin s n
+unfolding simple_runs.plain simple_runs.open_run
+ends_as_simple s n is ended = record {
+  few = few_follow n 0 [] (rules.script_tree s) (script_tree n s realm) (follows_script n s is) ended;
+  ends = λ choices. ends_as_said (simple_runs.open_run s choices n) choices (open_run s choices n) ended (opens_as_simple s choices n is);
+}
 
 pub simple_runs_hold : SimpleRuns
 simple_runs_hold = record {
   runs = runs_as_simple;
+  closed = simple_closed;
+  typed = λ s w is. simple_typed s is w;
   values = λ vs name p is bound. ap (λ h. get h global name) (realm_is vs) ∙ got_value global_own (Some object_prototype) other_objects no_own name is vs p bound;
+  opens = opens_as_simple;
+  ends_within = ends_as_simple;
 }

@@ -13,10 +13,10 @@ use Rattle.js_tree.specs.SimpleTokens.{is_simple_name, is_taken}
 use Rattle.plain_heap.specs.Heap.{Key, Property, Properties, ObjectState, data_property, object_at, lookup, put_at}
 use Rattle.plain_heap.specs.Methods.{or_value}
 use Rattle.plain_heap.specs.Values.{Prim}
-use Rattle.js_machine.specs.Events as simple
+use Rattle.simple_runs.specs.Events as simple
 use Rattle.js_machine.specs.Machine.Numbers.{global}
 use Rattle.js_machine.specs.Machine.Realm.{realm}
-use Rattle.js_machine.specs.SimpleRuns.{variable}
+use Rattle.simple_runs.specs.SimpleRuns.{variable}
 
 flip_same : (a b : List ℕ) → is_same_text a b ≡ bytes_eq b a
 flip_same a b = nat_list_eq_equiv.symm a b

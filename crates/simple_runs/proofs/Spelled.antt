@@ -8,10 +8,10 @@ use Rattle.js_value.specs.declared.primitive.Primitive.TheVariants as primitive
 use Rattle.js_tree.specs.SimpleTokens.{place}
 use Rattle.js_tree.specs.Text.{declarator_text, declarators_text, script_text}
 use Rattle.js_tree.specs.Residual.{variable, snapshot}
-use Rattle.js_machine.specs.Readable.{is_plain_value, is_readable, is_readable_variable, value_text, variable_text, variables_text}
-use Rattle.js_machine.proofs.Texts as texts
-use Rattle.js_machine.proofs.Texts.{init_text-constant, script_text-var, behind_commas}
-use Rattle.js_machine.proofs.Lexing.{behind_sign-literal, IsLiteral-decimal, safe_negsuc}
+use Rattle.simple_runs.specs.Readable.{is_plain_value, is_readable, is_readable_variable, value_text, variable_text, variables_text}
+use Rattle.simple_runs.proofs.Texts as texts
+use Rattle.simple_runs.proofs.Texts.{init_text-constant, script_text-var, behind_commas}
+use Rattle.simple_runs.proofs.Literals.{behind_sign-literal, IsLiteral-decimal, safe_negsuc}
 
 value_text-same : (value : Primitive) → is_plain_value value ≡ true → texts.value_text value ≡ value_text value
 value_text-same primitive.Undefined plain = refl

@@ -1,0 +1,16 @@
+pub mod Forms
+pub mod Texts
+pub mod Literals
+pub mod Reading
+pub mod Running
+pub mod Spelled
+pub mod Variables
+pub mod GlobalVariables
+pub mod GlobalNames
+pub mod Declaring
+pub mod SimpleExpressions
+pub mod SimpleStatements
+pub mod NoInputs
+pub mod SimpleScripts
+pub mod VariableListings
+pub mod Placed

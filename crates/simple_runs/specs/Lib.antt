@@ -1,0 +1,7 @@
+pub mod Events
+pub mod Simple
+pub mod Runs
+pub mod Listing
+pub mod Readable
+pub mod SimpleRuns
+pub mod SimpleListings
