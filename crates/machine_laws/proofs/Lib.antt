@@ -1,0 +1,11 @@
+pub mod Alike
+pub mod AlikeObjects
+pub mod AlikeExpressions
+pub mod AlikeStatements
+pub mod AlikeFunctions
+pub mod AlikeBuiltins
+pub mod AlikeArrays
+pub mod AlikeRealm
+pub mod AlikeLevels
+pub mod Walks
+pub mod Turns
