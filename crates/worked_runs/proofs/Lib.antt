@@ -1,0 +1,7 @@
+mod Lengths
+mod Instance
+mod Abstract
+mod WorkedHeaps
+mod Folds
+mod Codes
+mod WorkedTexts

@@ -1,0 +1,3 @@
+pub mod TooLong
+pub mod WorkedHeapStates
+pub mod WorkedRuns
