@@ -14,7 +14,7 @@ use Rattle.plain_heap.specs.Values.{Object, Absent, undefined}
 use Rattle.js_machine.specs.Machine.Walks.{Outcome, Ended, Normally, walk}
 use Rattle.js_machine.specs.RunCases.{deep, no_world}
 use Rattle.js_machine.proofs.Opening.{opening}
-use Rattle.worked_runs.specs.WorkedHeapStates.{counter_from, makers_from}
+use Rattle.worked_runs.proofs.WorkedHeapStates.{counter_from, makers_from}
 use Rattle.worked_runs.specs.WorkedRuns.{counter_script, makers_script}
 use Rattle.js_value.specs.Conversions as V
 use Rattle.js_value.specs.Operators as W

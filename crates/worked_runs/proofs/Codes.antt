@@ -1,29 +1,57 @@
--- The code of the functions on one line, and their free names.
-use Rattle.std.proofs.Common.{◌≡◌, ℕ, List, [], ◌∷◌, ◌++◌, ap, refl, ◌∙◌, Bool, None}
+-- The code of the functions on one line.
+use Rattle.std.proofs.Common.{◌≡◌, ℕ, ◌<◌, List, [], ◌∷◌, ◌++◌, ap, refl, ◌∙◌, Bool, true, None, map, arith}
 use Rattle.std.specs.Prelude.{codes, pos}
-use Rattle.js_value.specs.declared.place.FuncNo.{FuncNo}
-use Rattle.js_value.specs.declared.primitive.Primitive.TheVariants as primitive
-use Rattle.js_tree.specs.Mentions.{Names}
-use Rattle.js_tree.specs.declared.statement.Script.{Script}
-use Rattle.script_text.specs.Pieces.{Piece, LineEnd, Bind, Release, word, opening, closing}
-use Rattle.script_text.specs.Statements.{begin_braces, end_braces}
-use Rattle.script_text.specs.Expressions.{tokens, literal, name, reference, of_form, printed}
-use Rattle.js_tree.specs.declared.expression.ExprForm.TheOpen.{ExprForm-F}
-use Rattle.js_tree.specs.declared.expression.Expr.{Expr}
-use Rattle.js_value.specs.declared.operator.BinaryOp.TheVariants as binary
+use Rattle.std.specs.Int.{is_in_range}
+use Rattle.std.proofs.lemmas.Bool.Decides.{nat_tests}
 use Rattle.std.specs.Char.Utf16.{utf16_chars}
 use Rattle.std.specs.Fmt.{digits}
+use Rattle.unicode_ident.proofs.IdentLemmas.{is_xid_start-ascii, is_xid_continue-ascii}
+use Rattle.js_value.specs.declared.place.FuncNo.{FuncNo}
+use Rattle.js_value.specs.declared.primitive.Primitive.TheVariants as primitive
+use Rattle.js_value.specs.declared.operator.BinaryOp.TheVariants as binary
 use Rattle.js_value.specs.Texts.{quoted_unit}
+use Rattle.js_tree.specs.Mentions.{Names, hoisted_vars, hoisted_functions}
+use Rattle.js_tree.specs.declared.statement.Script.{Script}
+use Rattle.js_tree.specs.Lexing.{is_name_start, is_name_part}
+use Rattle.js_tree.specs.Refusals.{place}
+use Rattle.js_tree.specs.declared.expression.Field.{Field}
+use Rattle.js_tree.specs.declared.expression.Field.TheVariants as field
+use Rattle.js_tree.specs.declared.expression.ExprForm.TheOpen.{ExprForm-F}
+use Rattle.js_tree.specs.declared.expression.Expr.{Expr}
 use Rattle.js_tree.specs.declared.expression.ExprForm.TheVariants as e
 use Rattle.js_tree.specs.declared.statement.StmtForm.TheFolds.{fold_out-Stmt, fold_out-StmtForm}
 use Rattle.js_tree.specs.declared.statement.StmtForm.TheVariants as s
-use Rattle.js_tree.specs.Mentions.{hoisted_vars, hoisted_functions, free_names}
 use Rattle.js_tree.specs.Trees.{no, expr}
-use Rattle.js_tree.proofs.EarlyCases.{expr_first, form_first}
+use Rattle.script_text.specs.Pieces.{Piece, LineEnd, Bind, Release, word, opening, closing}
+use Rattle.script_text.specs.Statements.{begin_braces, end_braces}
+use Rattle.script_text.specs.Expressions.{tokens, literal, name, reference, key_before, value, of_form, printed, printed_field}
+use Rattle.script_text.specs.declared.gap.Gap.TheVariants.{Loose}
 use Rattle.script_text.specs.CodeLine.{add, add_all, empty_line, code_pieces, code_text}
 use Rattle.script_text.specs.Printing.{function_to}
-use Rattle.worked_runs.proofs.Folds.{opened}
+use Rattle.worked_runs.proofs.Folds.{opened, field_opened}
 use Rattle.worked_runs.specs.WorkedRuns.{throwing_setter_script, inherited_setter_script, makers_script, counter_script}
+
+-- ---- the lines
+
+abbrev pub throw_line : List ℕ
+throw_line = codes "function ( ) { throw 1 ; }"
+
+abbrev pub hits_line : List ℕ
+hits_line = codes "function ( x ) { hits = hits + 1 ; }"
+
+abbrev pub read_line : List ℕ
+read_line = codes "function ( ) { return %1 ; }"
+
+abbrev pub inc_line : List ℕ
+inc_line = codes "function ( ) { %1 = %1 + 1 ; return %1 ; }"
+
+abbrev pub maker_line : List ℕ
+maker_line = codes "function ( n ) { return function ( ) { return n ; } ; }"
+
+abbrev pub make_line : List ℕ
+make_line = codes "function ( ) { var n = 0 ; return { inc : function ( ) { n = n + 1 ; return n ; } , get : function ( ) { return n ; } } ; }"
+
+-- ---- how they come about
 
 pub line_of : (s : Script) (f : FuncNo) (names : Names) (ps : List Piece) → code_pieces s f ≡ ps → code_text s f names ≡ (add_all ps (empty_line names)).bytes
 unfolding code_text
@@ -53,8 +81,27 @@ module _ (function : Bool → FuncNo → List Piece) (at : ℕ) where
   printed_assigned : (a b : Expr) → printed function (expr at (e.Assign a None b)) ≡ of_form function (ExprForm-F.Assign (printed function a) None (printed function b))
   printed_assigned a b = opened function (expr at (e.Assign a None b)) ∙ rw (e.outs-Assign a None b) refl
 
+  printed_object : (fields : List Field) → printed function (expr at (e.ObjectLit fields)) ≡ of_form function (ExprForm-F.ObjectLit (map (printed_field function) fields))
+  printed_object fields = opened function (expr at (e.ObjectLit fields)) ∙ rw (e.outs-ObjectLit fields) refl
+
+  printed_value : (key : List ℕ) (x : Expr) → printed_field function (field.Value (place at) key x) ≡ key_before Loose key ++ closing (codes ":") ++ value (printed function x)
+  printed_value key x = field_opened function (field.Value (place at) key x) ∙ rw (field.outs-Value (place at) key x) refl
+
   printed_function : (f : FuncNo) → printed function (expr at (e.Func f)) ≡ of_form function (ExprForm-F.Func f)
   printed_function f = opened function (expr at (e.Func f)) ∙ rw (e.outs-Func f) refl
+
+-- small letters begin names, and go on in them
+
+small_ascii : (c : ℕ) → is_in_range 97 122 c ≡ true → c < 128
+small_ascii c small = grind (arith, nat_tests)
+
+small_starts : (c : ℕ) → is_in_range 97 122 c ≡ true → is_name_start c ≡ true
+unfolding is_name_start
+small_starts c small = rw (is_xid_start-ascii c (small_ascii c small)) (grind (arith, nat_tests))
+
+small_goes_on : (c : ℕ) → is_in_range 97 122 c ≡ true → is_name_part c ≡ true
+unfolding is_name_part
+small_goes_on c small = rw (is_xid_continue-ascii c (small_ascii c small)) (grind (arith, nat_tests))
 
 ruleset printing = (fold_out-Stmt, fold_out-StmtForm, printed_number, printed_name, printed_sum, printed_assigned, printed_function)
 
@@ -65,13 +112,9 @@ throwing_pieced : code_pieces throwing_setter_script (no 0) ≡ throwing_pieces
 unfolding tokens function_to hoisted_vars hoisted_functions
 throwing_pieced = simp (printing, s.outs-Throw)
 
-pub throwing_code : code_text throwing_setter_script (no 0) [] ≡ codes "function ( ) { throw 1 ; }"
+pub throwing_code : code_text throwing_setter_script (no 0) [] ≡ throw_line
 unfolding add digits quoted_unit utf16_chars lib.Utf8.encode
 throwing_code = line_of throwing_setter_script (no 0) [] throwing_pieces throwing_pieced
-
-pub throwing_names : free_names throwing_setter_script (no 0) ≡ []
-unfolding free_names hoisted_vars hoisted_functions
-throwing_names = simp (fold_out-Stmt, fold_out-StmtForm, expr_first, form_first, s.outs-Throw, e.outs-Literal)
 
 abbrev inherited_pieces : List Piece
 inherited_pieces =
@@ -82,7 +125,7 @@ inherited_pieced : code_pieces inherited_setter_script (no 0) ≡ inherited_piec
 unfolding tokens function_to hoisted_vars hoisted_functions
 inherited_pieced = simp (printing, s.outs-Eval)
 
-pub inherited_code : code_text inherited_setter_script (no 0) [] ≡ codes "function ( x ) { hits = hits + 1 ; }"
+pub inherited_code : code_text inherited_setter_script (no 0) [] ≡ hits_line
 unfolding add digits quoted_unit utf16_chars lib.Utf8.encode
 inherited_code = line_of inherited_setter_script (no 0) [] inherited_pieces inherited_pieced
 
@@ -96,19 +139,15 @@ made_pieced : code_pieces makers_script (no 1) ≡ made_pieces
 unfolding tokens function_to hoisted_vars hoisted_functions
 made_pieced = simp (printing, s.outs-Return)
 
-pub made_code : code_text makers_script (no 1) (codes "n" ∷ []) ≡ codes "function ( ) { return %1 ; }"
+pub made_code : code_text makers_script (no 1) (codes "n" ∷ []) ≡ read_line
 unfolding add digits quoted_unit utf16_chars lib.Utf8.encode
 made_code = line_of makers_script (no 1) (codes "n" ∷ []) made_pieces made_pieced
-
-pub made_names : free_names makers_script (no 1) ≡ codes "n" ∷ []
-unfolding free_names hoisted_vars hoisted_functions
-made_names = simp (fold_out-Stmt, fold_out-StmtForm, expr_first, form_first, s.outs-Return, e.outs-Name)
 
 get_pieced : code_pieces counter_script (no 2) ≡ made_pieces
 unfolding tokens function_to hoisted_vars hoisted_functions
 get_pieced = simp (printing, s.outs-Return)
 
-pub get_code : code_text counter_script (no 2) (codes "n" ∷ []) ≡ codes "function ( ) { return %1 ; }"
+pub get_code : code_text counter_script (no 2) (codes "n" ∷ []) ≡ read_line
 unfolding add digits quoted_unit utf16_chars lib.Utf8.encode
 get_code = line_of counter_script (no 2) (codes "n" ∷ []) made_pieces get_pieced
 
@@ -120,7 +159,7 @@ inc_pieced : code_pieces counter_script (no 1) ≡ inc_pieces
 unfolding tokens function_to hoisted_vars hoisted_functions
 inc_pieced = simp (printing, s.outs-Eval, s.outs-Return)
 
-pub inc_code : code_text counter_script (no 1) (codes "n" ∷ []) ≡ codes "function ( ) { %1 = %1 + 1 ; return %1 ; }"
+pub inc_code : code_text counter_script (no 1) (codes "n" ∷ []) ≡ inc_line
 unfolding add digits quoted_unit utf16_chars lib.Utf8.encode
 inc_code = line_of counter_script (no 1) (codes "n" ∷ []) inc_pieces inc_pieced
 
@@ -131,14 +170,23 @@ maker_pieced : code_pieces makers_script (no 0) ≡ maker_pieces
 unfolding tokens function_to hoisted_vars hoisted_functions
 maker_pieced = simp (printing, s.outs-Return)
 
-pub maker_code : code_text makers_script (no 0) [] ≡ codes "function ( n ) { return function ( ) { return n ; } ; }"
+pub maker_code : code_text makers_script (no 0) [] ≡ maker_line
 unfolding add digits quoted_unit utf16_chars lib.Utf8.encode
 maker_code = line_of makers_script (no 0) [] maker_pieces maker_pieced
 
-pub get_names : free_names counter_script (no 2) ≡ codes "n" ∷ []
-unfolding free_names hoisted_vars hoisted_functions
-get_names = simp (fold_out-Stmt, fold_out-StmtForm, expr_first, form_first, s.outs-Return, e.outs-Name)
+abbrev key : List ℕ → List Piece
+key text = name text ++ closing (codes ":")
 
-pub maker_names : free_names makers_script (no 0) ≡ []
-unfolding free_names hoisted_vars hoisted_functions
-maker_names = simp (fold_out-Stmt, fold_out-StmtForm, expr_first, form_first, s.outs-Return, e.outs-Name, e.outs-Func)
+abbrev make_pieces : List Piece
+make_pieces =
+    function_pieces (codes "n" ∷ []) []
+    (statement_line (word (codes "var") ++ name (codes "n") ++ word (codes "=") ++ number_piece 0)
+    ++ statement_line (word (codes "return") ++ opening (codes "{") ++ key (codes "inc") ++ inc_pieces ++ closing (codes ",") ++ key (codes "get") ++ made_pieces ++ closing (codes "}")))
+
+make_pieced : code_pieces counter_script (no 0) ≡ make_pieces
+unfolding tokens function_to hoisted_vars hoisted_functions
+make_pieced = simp (printing, printed_object, printed_value, small_starts, small_goes_on, s.outs-Eval, s.outs-Return, s.outs-Var)
+
+pub make_code : code_text counter_script (no 0) [] ≡ make_line
+unfolding add digits quoted_unit utf16_chars lib.Utf8.encode
+make_code = line_of counter_script (no 0) [] make_pieces make_pieced

@@ -1,10 +1,10 @@
--- The tokens of an expression, its fold opened once.
+-- The tokens of an expression and of a field, the fold opened once.
 use Rattle.std.proofs.Common.{◌≡◌, ◌∙◌, Bool, List}
 use Rattle.js_value.specs.declared.place.FuncNo.{FuncNo}
 use Rattle.js_tree.specs.declared.expression.Expr.{Expr}
-use Rattle.js_tree.specs.declared.expression.Field.{Field}
+use Rattle.js_tree.specs.declared.expression.Field.{Field, out-Field}
 use Rattle.js_tree.specs.declared.expression.ExprForm.{ExprForm, out-ExprForm}
-use Rattle.js_tree.specs.declared.expression.ExprForm.TheFolds.{map-ExprForm, fold_out-ExprForm, fold_out-Expr}
+use Rattle.js_tree.specs.declared.expression.ExprForm.TheFolds.{map-ExprForm, map-Field, fold_out-ExprForm, fold_out-Field, fold_out-Expr}
 use Rattle.script_text.specs.Expressions as E
 use Rattle.script_text.specs.Expressions.{Printed}
 use Rattle.script_text.specs.Pieces.{Piece}
@@ -17,3 +17,7 @@ module _ (function : Bool → FuncNo → List Piece) where
   opened e =
       fold_out-Expr Printed (List Piece) Printed (E.of_form function) (E.of_field function) (λ e. e.form) e
       ∙ fold_out-ExprForm Printed (List Piece) Printed (E.of_form function) (E.of_field function) (λ e. e.form) e.form
+
+  pub field_opened : (f : Field) → E.printed_field function f
+      ≡ E.of_field function (map-Field ExprForm Field Expr Printed (List Piece) Printed (E.printed_form function) (E.printed_field function) (E.printed function) (out-Field f))
+  field_opened f = fold_out-Field Printed (List Piece) Printed (E.of_form function) (E.of_field function) (λ e. e.form) f

@@ -1,7 +1,10 @@
 mod Lengths
 mod Instance
+mod WorkedHeapStates
 mod Abstract
 mod WorkedHeaps
 mod Folds
 mod Codes
+mod FreeNames
+mod WholeTexts
 mod WorkedTexts

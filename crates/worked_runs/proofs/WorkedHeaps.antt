@@ -16,7 +16,7 @@ use Rattle.js_machine.specs.RunCases.{deep, no_world}
 use Rattle.js_machine.specs.TextCases.{function_script}
 use Rattle.js_machine.proofs.Opening.{opening}
 use Rattle.worked_runs.proofs.Abstract.{counter_any, makers_any}
-use Rattle.worked_runs.specs.WorkedHeapStates.{after_counter, after_makers, after_inherited_setter, after_throwing_setter}
+use Rattle.worked_runs.proofs.WorkedHeapStates.{after_counter, after_makers, after_inherited_setter, after_throwing_setter}
 use Rattle.worked_runs.specs.WorkedRuns.{nothing, sum_script, minus_zero_script, cycle_script, changes_script, counter_script, makers_script, inherited_setter_script, throwing_setter_script}
 use Rattle.js_value.specs.Conversions as V
 use Rattle.js_value.specs.Operators as W

@@ -1,6 +1,6 @@
 -- The text of each heap computes, and with it that of the run.
 use Rattle.std.proofs.Common.{◌≡◌, refl, Some}
-use Rattle.std.specs.Prelude.{codes, [], ◌∷◌}
+use Rattle.std.specs.Prelude.{codes}
 use Rattle.std.specs.Fmt.{digits}
 use Rattle.js_value.specs.Conversions.{is_same_value, to_text}
 use Rattle.js_value.specs.Texts.{quoted_unit}
@@ -16,10 +16,10 @@ use Rattle.js_machine.specs.Machine.Walks.{Left}
 use Rattle.js_machine.specs.TextCases.{a_number_text, a_cycle_text, a_function_text, realm_changes_text, function_script}
 use Rattle.script_text.specs.CodeLine.{add, code_text}
 use Rattle.script_text.specs.Printing.{function_to}
-use Rattle.worked_runs.specs.WorkedRuns.{WorkedRuns, text_by, counter_lines, makers_lines, nothing, sum_script, minus_zero_script, cycle_script, changes_script, counter_script, makers_script, inherited_setter_script, throwing_setter_script, counter_text, makers_text, inherited_setter_text, throwing_setter_text}
-use Rattle.worked_runs.specs.WorkedHeapStates.{after_counter, after_makers, after_inherited_setter, after_throwing_setter}
-use Rattle.worked_runs.proofs.Codes.{get_names, maker_names, maker_code, inc_code, get_code, made_code, made_names, inherited_code, throwing_code, throwing_names}
+use Rattle.worked_runs.specs.WorkedRuns.{WorkedRuns, nothing, sum_script, minus_zero_script, cycle_script, changes_script, counter_script, makers_script, inherited_setter_script, throwing_setter_script}
 use Rattle.worked_runs.proofs.Instance.{at_most, text_at_most}
+use Rattle.worked_runs.proofs.WorkedHeapStates.{after_counter, after_makers, after_inherited_setter, after_throwing_setter}
+use Rattle.worked_runs.proofs.WholeTexts.{counter_whole, makers_whole, inherited_setter_whole, throwing_setter_whole}
 use Rattle.worked_runs.proofs.WorkedHeaps.{heaps, leaving}
 
 record Texts : Type 0 where
@@ -28,14 +28,10 @@ record Texts : Type 0 where
   cycle_text : outcome_text cycle_script (leaving after_cycle) ≡ Some a_cycle_text
   function_text : outcome_text function_script (leaving after_function) ≡ Some a_function_text
   changes_text : outcome_text changes_script (leaving after_realm_changes) ≡ Some realm_changes_text
-  counter_text_of : text_by counter_lines ([] ∷ (codes "n" ∷ []) ∷ (codes "n" ∷ []) ∷ []) after_counter ≡ counter_text
-  makers_text_of : text_by makers_lines ([] ∷ (codes "n" ∷ []) ∷ []) after_makers ≡ makers_text
-  inherited_setter_text_of : text_by (codes "function ( x ) { hits = hits + 1 ; }" ∷ []) ((codes "hits" ∷ []) ∷ []) after_inherited_setter ≡ inherited_setter_text
-  throwing_setter_text_of : text_by (codes "function ( ) { throw 1 ; }" ∷ []) ([] ∷ []) after_throwing_setter ≡ throwing_setter_text
 
 texts : Texts
 unfolding code_text add function_to hoisted_vars hoisted_functions free_names digits is_same_value to_text quoted_unit resolve queue_of listing_by realm realm_names realm_name run_text
-texts = record { nothing_text = refl; sum_text = refl; cycle_text = refl; function_text = refl; changes_text = refl; counter_text_of = refl; makers_text_of = refl; inherited_setter_text_of = refl; throwing_setter_text_of = refl }
+texts = record { nothing_text = refl; sum_text = refl; cycle_text = refl; function_text = refl; changes_text = refl }
 
 pub worked_runs : WorkedRuns
 worked_runs = record {
@@ -45,22 +41,8 @@ worked_runs = record {
   cycle_run = text_at_most cycle_script (leaving after_cycle) heaps.cycle_ends _ texts.cycle_text;
   function_run = text_at_most function_script (leaving after_function) heaps.function_ends _ texts.function_text;
   changes_run = text_at_most changes_script (leaving after_realm_changes) heaps.changes_ends _ texts.changes_text;
-  counter_ends = at_most counter_script (leaving after_counter) heaps.counter_ends;
-  counter_listed = texts.counter_text_of;
-  makers_ends = at_most makers_script (leaving after_makers) heaps.makers_ends;
-  makers_listed = texts.makers_text_of;
-  inherited_setter_ends = at_most inherited_setter_script (leaving after_inherited_setter) heaps.inherited_setter_ends;
-  inherited_setter_listed = texts.inherited_setter_text_of;
-  throwing_setter_ends = at_most throwing_setter_script (leaving after_throwing_setter) heaps.throwing_setter_ends;
-  throwing_setter_listed = texts.throwing_setter_text_of;
-  inc_code = inc_code;
-  get_code = get_code;
-  made_code = made_code;
-  get_names = get_names;
-  maker_names = maker_names;
-  maker_code = maker_code;
-  made_names = made_names;
-  inherited_setter_code = inherited_code;
-  throwing_setter_code = throwing_code;
-  throwing_setter_names = throwing_names;
+  counter_run = text_at_most counter_script (leaving after_counter) heaps.counter_ends _ counter_whole;
+  makers_run = text_at_most makers_script (leaving after_makers) heaps.makers_ends _ makers_whole;
+  inherited_setter_run = text_at_most inherited_setter_script (leaving after_inherited_setter) heaps.inherited_setter_ends _ inherited_setter_whole;
+  throwing_setter_run = text_at_most throwing_setter_script (leaving after_throwing_setter) heaps.throwing_setter_ends _ throwing_setter_whole;
 }

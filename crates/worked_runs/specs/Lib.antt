@@ -1,3 +1,2 @@
 pub mod TooLong
-pub mod WorkedHeapStates
 pub mod WorkedRuns

@@ -1,5 +1,5 @@
 -- Whole texts of runs on the realm, worked out by hand.
-use Rattle.std.specs.Prelude.{◌≡◌, ℕ, pos, true, List, [], ◌∷◌, ◌++◌, codes, slice_get, Some, None}
+use Rattle.std.specs.Prelude.{◌≡◌, ℕ, pos, true, List, [], ◌∷◌, ◌++◌, codes, Some, None}
 use Rattle.js_value.specs.declared.operator.BinaryOp.TheVariants as binary
 use Rattle.js_value.specs.declared.operator.UnaryOp.TheVariants as unary
 use Rattle.js_value.specs.declared.primitive.Primitive.TheVariants as primitive
@@ -8,16 +8,11 @@ use Rattle.js_tree.specs.Refusals.{place}
 use Rattle.js_tree.specs.Trees.{expr, name, stmt, no, declared, declarator, func, script}
 use Rattle.js_tree.specs.declared.expression.ExprForm.TheVariants as e
 use Rattle.js_tree.specs.declared.expression.Field.TheVariants as field
+use Rattle.js_tree.specs.declared.statement.Func.{Func}
 use Rattle.js_tree.specs.declared.statement.Script.{Script}
 use Rattle.js_tree.specs.declared.statement.StmtForm.TheVariants as s
-use Rattle.js_machine.specs.Machine.RunText.{line, outcome_text, run_text}
-use Rattle.js_machine.specs.Machine.Walks.{Ended, Left, Normally, plain}
-use Rattle.js_machine.specs.Machine.Listed.{FreeNames, queue_of, listing_by}
-use Rattle.plain_heap.specs.Heap.{Heap}
-use Rattle.plain_heap.specs.Methods.{or_value}
-use Rattle.js_tree.specs.Mentions.{Names, free_names}
-use Rattle.script_text.specs.CodeLine.{code_text}
-use Rattle.worked_runs.specs.WorkedHeapStates.{after_counter, after_makers, after_inherited_setter, after_throwing_setter}
+use Rattle.js_machine.specs.Machine.RunText.{line, outcome_text}
+use Rattle.js_machine.specs.Machine.Walks.{Left, plain}
 use Rattle.js_machine.specs.RunCases.{no_world}
 use Rattle.js_machine.specs.TextCases.{a_number_text, a_cycle_text, a_function_text, realm_changes_text, function_script}
 
@@ -54,6 +49,20 @@ changes_script =
     ∷ stmt 65 (s.Eval (expr 65 (e.Unary unary.Delete (expr 72 (e.Member (expr 72 (e.Member (name 72 (codes "Array")) (codes "prototype"))) (codes "push"))))))
     ∷ []) []
 
+-- the functions of the counter, in the order of their numbers
+
+abbrev pub make_function : Func
+make_function =
+    func 0 (Some (declared 9 (codes "make"))) [] (stmt 18 (s.Var (declarator 22 (codes "n") (Some (expr 26 (e.Literal (primitive.Number (pos 0))))) ∷ [])) ∷ stmt 29 (s.Return (Some (expr 36 (e.ObjectLit (field.Value (place 38) (codes "inc") (expr 43 (e.Func (no 1))) ∷ field.Value (place 81) (codes "get") (expr 86 (e.Func (no 2))) ∷ []))))) ∷ [])
+
+abbrev pub inc_function : Func
+inc_function =
+    func 43 None [] (stmt 57 (s.Eval (expr 57 (e.Assign (name 57 (codes "n")) None (expr 61 (e.Binary binary.Add (name 61 (codes "n")) (expr 65 (e.Literal (primitive.Number (pos 1))))))))) ∷ stmt 68 (s.Return (Some (name 75 (codes "n")))) ∷ [])
+
+abbrev pub get_function : Func
+get_function =
+    func 86 None [] (stmt 100 (s.Return (Some (name 107 (codes "n")))) ∷ [])
+
 -- function make() { var n = 0; return { inc: function () { n = n + 1; return n; }, get: function () { return n; } }; } var c = make(); c.inc(); c.inc();
 abbrev pub counter_script : Script
 counter_script =
@@ -61,10 +70,7 @@ counter_script =
     ∷ stmt 117 (s.Var (declarator 121 (codes "c") (Some (expr 125 (e.Call (name 125 (codes "make")) []))) ∷ []))
     ∷ stmt 133 (s.Eval (expr 133 (e.Call (expr 133 (e.Member (name 133 (codes "c")) (codes "inc"))) [])))
     ∷ stmt 142 (s.Eval (expr 142 (e.Call (expr 142 (e.Member (name 142 (codes "c")) (codes "inc"))) [])))
-    ∷ []) (func 0 (Some (declared 9 (codes "make"))) [] (stmt 18 (s.Var (declarator 22 (codes "n") (Some (expr 26 (e.Literal (primitive.Number (pos 0))))) ∷ [])) ∷ stmt 29 (s.Return (Some (expr 36 (e.ObjectLit (field.Value (place 38) (codes "inc") (expr 43 (e.Func (no 1))) ∷ field.Value (place 81) (codes "get") (expr 86 (e.Func (no 2))) ∷ []))))) ∷ [])
-    ∷ func 43 None [] (stmt 57 (s.Eval (expr 57 (e.Assign (name 57 (codes "n")) None (expr 61 (e.Binary binary.Add (name 61 (codes "n")) (expr 65 (e.Literal (primitive.Number (pos 1))))))))) ∷ stmt 68 (s.Return (Some (name 75 (codes "n")))) ∷ [])
-    ∷ func 86 None [] (stmt 100 (s.Return (Some (name 107 (codes "n")))) ∷ [])
-    ∷ [])
+    ∷ []) (make_function ∷ inc_function ∷ get_function ∷ [])
 
 abbrev pub counter_text : List ℕ
 counter_text =
@@ -198,23 +204,6 @@ throwing_setter_text =
     ++ line (codes "#3 object Object.prototype")
     ++ line (codes "  \"constructor\" = #2 w-c")
 
--- The text of a heap, where each function by its number shows a line of code that is given and has free names that are given.
-abbrev pub text_by : List (List ℕ) → List Names → Heap → List ℕ
-text_by lines free h =
-    let names : FreeNames = λ f. or_value [] (slice_get free f.0) in
-    run_text (λ l. l) [] (queue_of names h Normally) Normally (listing_by (λ f captured. or_value [] (slice_get lines f.0)) names h Normally)
-
--- the lines of the functions of a script, in the order of their numbers
-abbrev pub counter_lines : List (List ℕ)
-counter_lines =
-    codes "function ( ) { var n = 0 ; return { inc : function ( ) { n = n + 1 ; return n ; } , get : function ( ) { return n ; } } ; }"
-    ∷ codes "function ( ) { %1 = %1 + 1 ; return %1 ; }"
-    ∷ codes "function ( ) { return %1 ; }"
-    ∷ []
-
-abbrev pub makers_lines : List (List ℕ)
-makers_lines = codes "function ( n ) { return function ( ) { return n ; } ; }" ∷ codes "function ( ) { return %1 ; }" ∷ []
-
 -- each run may take 200 steps, and ends or leaves within them
 pub record WorkedRuns : Type 0 where
   pub nothing_run : outcome_text nothing (plain nothing no_world 200) ≡ Some (line (codes "normal"))
@@ -223,23 +212,7 @@ pub record WorkedRuns : Type 0 where
   pub cycle_run : outcome_text cycle_script (plain cycle_script no_world 200) ≡ Some a_cycle_text
   pub function_run : outcome_text function_script (plain function_script no_world 200) ≡ Some a_function_text
   pub changes_run : outcome_text changes_script (plain changes_script no_world 200) ≡ Some realm_changes_text
-  -- of scripts whose functions have code, the heap that each leaves, and its text with lines and free names that are given
-  pub counter_ends : plain counter_script no_world 200 ≡ Ended [] Normally after_counter
-  pub makers_ends : plain makers_script no_world 200 ≡ Ended [] Normally after_makers
-  pub inherited_setter_ends : plain inherited_setter_script no_world 200 ≡ Ended [] Normally after_inherited_setter
-  pub throwing_setter_ends : plain throwing_setter_script no_world 200 ≡ Ended [] Normally after_throwing_setter
-  pub counter_listed : text_by counter_lines ([] ∷ (codes "n" ∷ []) ∷ (codes "n" ∷ []) ∷ []) after_counter ≡ counter_text
-  pub makers_listed : text_by makers_lines ([] ∷ (codes "n" ∷ []) ∷ []) after_makers ≡ makers_text
-  pub inherited_setter_listed : text_by (codes "function ( x ) { hits = hits + 1 ; }" ∷ []) ((codes "hits" ∷ []) ∷ []) after_inherited_setter ≡ inherited_setter_text
-  pub throwing_setter_listed : text_by (codes "function ( ) { throw 1 ; }" ∷ []) ([] ∷ []) after_throwing_setter ≡ throwing_setter_text
-  -- of those lines and names, these are the script's
-  pub inc_code : code_text counter_script (no 1) (codes "n" ∷ []) ≡ codes "function ( ) { %1 = %1 + 1 ; return %1 ; }"
-  pub get_code : code_text counter_script (no 2) (codes "n" ∷ []) ≡ codes "function ( ) { return %1 ; }"
-  pub made_code : code_text makers_script (no 1) (codes "n" ∷ []) ≡ codes "function ( ) { return %1 ; }"
-  pub made_names : free_names makers_script (no 1) ≡ codes "n" ∷ []
-  pub inherited_setter_code : code_text inherited_setter_script (no 0) [] ≡ codes "function ( x ) { hits = hits + 1 ; }"
-  pub throwing_setter_code : code_text throwing_setter_script (no 0) [] ≡ codes "function ( ) { throw 1 ; }"
-  pub throwing_setter_names : free_names throwing_setter_script (no 0) ≡ []
-  pub maker_code : code_text makers_script (no 0) [] ≡ codes "function ( n ) { return function ( ) { return n ; } ; }"
-  pub get_names : free_names counter_script (no 2) ≡ codes "n" ∷ []
-  pub maker_names : free_names makers_script (no 0) ≡ []
+  pub counter_run : outcome_text counter_script (plain counter_script no_world 200) ≡ Some counter_text
+  pub makers_run : outcome_text makers_script (plain makers_script no_world 200) ≡ Some makers_text
+  pub inherited_setter_run : outcome_text inherited_setter_script (plain inherited_setter_script no_world 200) ≡ Some inherited_setter_text
+  pub throwing_setter_run : outcome_text throwing_setter_script (plain throwing_setter_script no_world 200) ≡ Some throwing_setter_text
