@@ -1,0 +1,6 @@
+pub mod Units
+pub mod Forms
+pub mod ItemForms
+pub mod Named
+pub mod Mentioned
+pub mod Alike

@@ -1,0 +1,36 @@
+-- The functions and the inputs among what code has, and which inputs are alike.
+use Rattle.std.specs.Prelude.{◌||◌, ◌++◌, ℕ, Bool, true, not, List, [], ◌∷◌}
+use Rattle.std.specs.List.{flat_map, list_all}
+use Rattle.std.specs.Str.{bytes_eq}
+use Rattle.js_value.specs.declared.primitive.Kind.{Kind}
+use Rattle.js_value.specs.contracts.primitive.KindPartialEq.TheImpl.{ghosts}
+use Rattle.js_tree.specs.declared.statement.Func.{Func}
+use Rattle.js_tree.specs.declared.statement.Script.{Script}
+use Rattle.readable_trees.specs.Items.{Item, Items, Function, Input, in_stmts}
+
+abbrev pub number_of : Item → List ℕ
+number_of (Function f) = f.0 ∷ []
+number_of (Input kind text) = []
+
+-- the numbers of the functions among these
+abbrev pub numbers : Items → List ℕ
+numbers items = flat_map number_of items
+
+-- all that a script has
+abbrev pub in_functions : List Func → Items
+in_functions fs = flat_map (λ (f : Func). in_stmts f.body) fs
+
+abbrev pub in_script : Script → Items
+in_script s = in_stmts s.body ++ in_functions s.funcs
+
+-- one input has one type
+abbrev pub agrees : Kind → List ℕ → Item → Bool
+agrees kind name (Function f) = true
+agrees kind name (Input other text) = not (bytes_eq name text) || ghosts.eq kind other
+
+abbrev pub agrees_with : Items → Item → Bool
+agrees_with all (Function f) = true
+agrees_with all (Input kind name) = list_all (agrees kind name) all
+
+abbrev pub are_alike : Items → Bool
+are_alike all = list_all (agrees_with all) all
