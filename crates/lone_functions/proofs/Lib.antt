@@ -1,0 +1,6 @@
+mod Counted
+mod Families
+mod Renumbered
+mod RenumberedStatements
+pub mod OrderLaw
+pub mod AloneCases
