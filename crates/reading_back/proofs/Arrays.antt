@@ -20,8 +20,8 @@ use Rattle.js_grammar.proofs.Laws.{repeated}
 use Rattle.script_text.specs.Expressions.{Printed, value, element, last_comma, is_elision, ends_in_elision}
 use Rattle.script_text.specs.Pieces.{Piece, opening, closing, separated, behind_commas}
 use Rattle.script_text.specs.Tokens.{Shape, shape, form_of, tokens_from}
-use Rattle.reading_back.specs.Claims.{World, Frame, Spot, rest_of, deeper, Leads, Ready, Read, anything, below, First, IsExpr, Part}
-use Rattle.reading_back.specs.Marks.{begins_none, begins_unary, begins_statement, begins_other}
+use Rattle.reading_back.proofs.Claims.{World, Frame, Spot, rest_of, deeper, Leads, Ready, Read, anything, below, First, IsExpr, Part}
+use Rattle.reading_back.proofs.Marks.{begins_none, begins_unary, begins_statement, begins_other}
 use Rattle.reading_back.specs.Unplaced as unplaced
 use Rattle.reading_back.proofs.Calls.{Arg}
 use Rattle.reading_back.proofs.Flowing.{flows_last, flows_token, spread}

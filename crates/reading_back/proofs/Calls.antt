@@ -18,8 +18,8 @@ use Rattle.js_grammar.proofs.Laws.{repeated, tied}
 use Rattle.script_text.specs.Expressions.{Printed, starts_at, value, in_parentheses}
 use Rattle.script_text.specs.Pieces.{Piece, closing, inner, word, separated, behind_commas}
 use Rattle.script_text.specs.Tokens.{Shape, shape, form_of, tokens_from}
-use Rattle.reading_back.specs.Claims.{World, Frame, Spot, rest_of, deeper, Leads, Ready, Read, anything, below, First, Look, IsExpr, Part, Fit}
-use Rattle.reading_back.specs.Marks.{begins_none, begins_unary, begins_statement, begins_other}
+use Rattle.reading_back.proofs.Claims.{World, Frame, Spot, rest_of, deeper, Leads, Ready, Read, anything, below, First, Look, IsExpr, Part, Fit}
+use Rattle.reading_back.proofs.Marks.{begins_none, begins_unary, begins_statement, begins_other}
 use Rattle.reading_back.specs.Unplaced as unplaced
 use Rattle.reading_back.proofs.Flowing.{flows_last, flows_token, spread}
 use Rattle.reading_back.proofs.Joining.{begins}

@@ -25,7 +25,7 @@ use Rattle.script_text.specs.Expressions.{is_ascii_name, key_before}
 use Rattle.script_text.specs.Pieces as piece
 use Rattle.script_text.specs.Pieces.{Piece, word, closing}
 use Rattle.script_text.specs.Tokens.{Shape, shape, form_of, name_form, tokens_from}
-use Rattle.reading_back.specs.Claims.{World, Frame, Spot, rest_of, Read, below, Flows, IsField, Fit, FieldPart, FunctionsRead}
+use Rattle.reading_back.proofs.Claims.{World, Frame, Spot, rest_of, Read, below, Flows, IsField, Fit, FieldPart, FunctionsRead}
 use Rattle.reading_back.specs.Unplaced as unplaced
 use Rattle.reading_back.proofs.Flowing.{flows_last}
 use Rattle.reading_back.proofs.LooseOperators.{assignment_reads, colon_is}

@@ -4,7 +4,7 @@ use Rattle.script_text.specs.Pieces as pieces
 use Rattle.script_text.specs.Pieces.{Piece}
 use Rattle.js_tree.specs.declared.token.TokenForm.TheVariants as form
 use Rattle.script_text.specs.Tokens.{Shape, shape, form_of, name_form, tokens_from}
-use Rattle.reading_back.specs.Claims.{Flows}
+use Rattle.reading_back.proofs.Claims.{Flows}
 
 -- whatever stands before them
 pub flows_last : (xs ys : List Piece) → Flows ys → Flows (xs ++ ys)

@@ -27,7 +27,7 @@ use Rattle.js_grammar.specs.ReadableExpressions.{ReadExpr}
 use Rattle.script_text.specs.Expressions as text
 use Rattle.script_text.specs.Expressions.{Printed, tokens, binary_level, logic_level, branch, index}
 use Rattle.script_text.specs.Pieces.{Piece, separated, behind_commas}
-use Rattle.reading_back.specs.Claims.{World, Look, Part, Whole, FieldPart, FunctionsRead}
+use Rattle.reading_back.proofs.Claims.{World, Look, Part, Whole, FieldPart, FunctionsRead}
 use Rattle.reading_back.proofs.Arrays.{tree_items, printed_items, array_pieces, array_part}
 use Rattle.reading_back.proofs.Calls.{Arg, trees, printed_all, call_part, new_look, new_pieces, new_part}
 use Rattle.reading_back.proofs.Objects.{Property, trees as field_trees, pieces_all, object_pieces, object_part}

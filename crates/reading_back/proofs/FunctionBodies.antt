@@ -21,8 +21,8 @@ use Rattle.js_grammar.proofs.Laws.{repeated}
 use Rattle.script_text.specs.Pieces.{Piece, Bind, Release, opening, closing, separated}
 use Rattle.script_text.specs.Statements.{shown, line, lines, is_empty, in_braces, begin_braces, end_braces, code, body, parameter, parameters, binding, own_name, func}
 use Rattle.script_text.specs.Tokens.{Shape, shape, form_of, name_form, tokens_from}
-use Rattle.reading_back.specs.Claims.{World, Frame, Spot, rest_of, deeper, Leads, Ready, Flows}
-use Rattle.reading_back.specs.StatementClaims.{ElementPart, is_else}
+use Rattle.reading_back.proofs.Claims.{World, Frame, Spot, rest_of, deeper, Leads, Ready, Flows}
+use Rattle.reading_back.proofs.StatementClaims.{ElementPart, is_else}
 use Rattle.reading_back.specs.Unplaced as unplaced
 use Rattle.reading_back.proofs.Flowing.{flows_last, flows_token, spread}
 use Rattle.reading_back.proofs.FunctionElements.{Element, Closes, bounds, numbers_all, trees, front, starts, elements_lead, lines_of, lines_front, line_behind}

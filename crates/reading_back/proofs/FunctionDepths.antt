@@ -22,7 +22,7 @@ use Rattle.script_text.specs.Pieces.{Piece, word, closing, separated}
 use Rattle.script_text.specs.Printing.{function_to, found, bound_names}
 use Rattle.script_text.specs.Statements.{func, own_name, parameter}
 use Rattle.script_text.specs.Tokens.{Shape, shape, form_of, name_form, tokens_from}
-use Rattle.reading_back.specs.Claims.{World, Frame, Spot, rest_of, Leads, Ready, Read, anything, Flows, IsNumber, FunctionsRead}
+use Rattle.reading_back.proofs.Claims.{World, Frame, Spot, rest_of, Leads, Ready, Read, anything, Flows, IsNumber, FunctionsRead}
 use Rattle.reading_back.specs.Unplaced as unplaced
 use Rattle.reading_back.proofs.Flowing.{flows_last}
 use Rattle.reading_back.proofs.FunctionBodies.{ElementsRead, elements_of, function_lead, flows_func, behind_name}

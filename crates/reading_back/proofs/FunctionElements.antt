@@ -16,8 +16,8 @@ use Rattle.js_grammar.specs.Rest.{Rest, Reading, ◌>>=◌, give, part, repeat, 
 use Rattle.js_grammar.proofs.Laws.{tied}
 use Rattle.script_text.specs.Pieces.{Piece, LineEnd}
 use Rattle.script_text.specs.Tokens.{Shape, shape, tokens_from}
-use Rattle.reading_back.specs.Claims.{World, Frame, Spot, rest_of, deeper, Leads, Ready}
-use Rattle.reading_back.specs.StatementClaims.{IsStmt, ElementPart, is_else, ends_list}
+use Rattle.reading_back.proofs.Claims.{World, Frame, Spot, rest_of, deeper, Leads, Ready}
+use Rattle.reading_back.proofs.StatementClaims.{IsStmt, ElementPart, is_else, ends_list}
 use Rattle.reading_back.specs.Unplaced as unplaced
 use Rattle.reading_back.proofs.Joining.{or_false, none}
 use Rattle.reading_back.proofs.StatementLists.{AreStmts, are_more_stmts, no_finally}

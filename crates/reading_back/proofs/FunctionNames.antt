@@ -18,7 +18,7 @@ use Rattle.js_grammar.proofs.Laws.{repeated}
 use Rattle.script_text.specs.Pieces.{Piece, closing, separated, behind_commas}
 use Rattle.script_text.specs.Statements.{parameter}
 use Rattle.script_text.specs.Tokens.{Shape, shape, form_of, name_form, tokens_from}
-use Rattle.reading_back.specs.Claims.{World, Frame, Spot, rest_of, Leads, Ready}
+use Rattle.reading_back.proofs.Claims.{World, Frame, Spot, rest_of, Leads, Ready}
 use Rattle.reading_back.specs.Unplaced as unplaced
 use Rattle.reading_back.proofs.Calls.{right_parenthesis_no_comma}
 use Rattle.reading_back.proofs.Groups.{right_parenthesis_is}

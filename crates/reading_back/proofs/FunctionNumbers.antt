@@ -11,7 +11,7 @@ use Rattle.js_tree.specs.declared.statement.Func.{Func}
 use Rattle.js_grammar.specs.FunctionOrder.{Numbers, are_named_from, in_body}
 use Rattle.js_grammar.specs.Rest.{Reading, behind, give, not_read_yet, begin, keep, numbered}
 use Rattle.script_text.specs.Tokens.{Shape}
-use Rattle.reading_back.specs.Claims.{World, Frame, Spot, Leads, Ready, IsNumber, SameAt}
+use Rattle.reading_back.proofs.Claims.{World, Frame, Spot, Leads, Ready, IsNumber, SameAt}
 use Rattle.reading_back.specs.Unplaced as unplaced
 use Rattle.reading_back.proofs.Readability.{both}
 

@@ -13,8 +13,8 @@ use Rattle.js_grammar.proofs.Laws.{repeated, tied}
 use Rattle.script_text.specs.Expressions.{Printed, tokens, grouped, if_grouped, at, starts_at, callee_of_new}
 use Rattle.script_text.specs.Pieces.{Piece, opening, closing}
 use Rattle.script_text.specs.Tokens.{Shape, shape, form_of, tokens_from}
-use Rattle.reading_back.specs.Claims.{World, Frame, Spot, rest_of, deeper, Read, anything, below, First, Look, IsExpr, Part, Fit, Whole}
-use Rattle.reading_back.specs.Marks.{begins_none, begins_unary, begins_statement, begins_other, joins}
+use Rattle.reading_back.proofs.Claims.{World, Frame, Spot, rest_of, deeper, Read, anything, below, First, Look, IsExpr, Part, Fit, Whole}
+use Rattle.reading_back.proofs.Marks.{begins_none, begins_unary, begins_statement, begins_other, joins}
 use Rattle.reading_back.proofs.Flowing.{flows_last, flows_token, spread}
 use Rattle.reading_back.proofs.Joining.{first_none}
 use Rattle.reading_back.proofs.Ladder.{no_more_commas, from_operand}

@@ -22,8 +22,8 @@ use Rattle.js_grammar.proofs.Laws.{repeated}
 use Rattle.script_text.specs.Expressions.{value, input, host_call, two_literals, kind_text}
 use Rattle.script_text.specs.Pieces.{Piece, word, closing, inner, behind_commas}
 use Rattle.script_text.specs.Tokens.{Shape, shape, form_of, tokens_from}
-use Rattle.reading_back.specs.Claims.{World, Frame, Spot, rest_of, deeper, Leads, Ready, Read, anything, below, Flows, First, IsExpr, Part}
-use Rattle.reading_back.specs.Marks.{begins_none, begins_unary, begins_statement, begins_other}
+use Rattle.reading_back.proofs.Claims.{World, Frame, Spot, rest_of, deeper, Leads, Ready, Read, anything, below, Flows, First, IsExpr, Part}
+use Rattle.reading_back.proofs.Marks.{begins_none, begins_unary, begins_statement, begins_other}
 use Rattle.reading_back.specs.Unplaced as unplaced
 use Rattle.reading_back.proofs.Calls.{Arg, AreExprs, are_more, bounds, printed_all, numbers_all, trees}
 use Rattle.reading_back.proofs.Flowing.{flows_last, flows_token, spread}

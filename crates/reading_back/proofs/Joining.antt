@@ -16,8 +16,8 @@ use Rattle.js_grammar.specs.Operators
 use Rattle.js_grammar.specs.Reading.{grammar}
 use Rattle.script_text.specs.Expressions.{operator, logic_operator, binary_level, logic_level}
 use Rattle.script_text.specs.Tokens.{Shape, form_of}
-use Rattle.reading_back.specs.Claims.{below}
-use Rattle.reading_back.specs.Marks.{joins, begins_none}
+use Rattle.reading_back.proofs.Claims.{below}
+use Rattle.reading_back.proofs.Marks.{joins, begins_none}
 use Rattle.reading_back.proofs.Steps.{first_of_shapes}
 
 abbrev pub is_in_op : BinaryOp → Bool

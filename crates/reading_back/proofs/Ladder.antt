@@ -16,8 +16,8 @@ use Rattle.js_grammar.proofs.Climbing.{climbs}
 use Rattle.js_grammar.proofs.Laws.{repeated}
 use Rattle.script_text.specs.Pieces.{Piece}
 use Rattle.script_text.specs.Tokens.{Shape, shape, tokens_from}
-use Rattle.reading_back.specs.Claims.{World, Frame, Spot, rest_of, Read, anything, below, Flows, First, Look, IsExpr, Part}
-use Rattle.reading_back.specs.Marks.{begins_unary}
+use Rattle.reading_back.proofs.Claims.{World, Frame, Spot, rest_of, Read, anything, below, Flows, First, Look, IsExpr, Part}
+use Rattle.reading_back.proofs.Marks.{begins_unary}
 use Rattle.reading_back.proofs.Steps.{from, stays, chain, bind, bind_on, first_is, next_none}
 use Rattle.reading_back.proofs.Joining.{first_none, no_operator}
 

@@ -1,3 +1,6 @@
+pub mod Marks
+pub mod Claims
+pub mod StatementClaims
 pub mod Steps
 pub mod Joining
 pub mod Ladder

@@ -21,8 +21,8 @@ use Rattle.js_grammar.proofs.Laws.{repeated, tied}
 use Rattle.script_text.specs.Expressions.{assignment_operator}
 use Rattle.script_text.specs.Pieces.{Piece, closing, word}
 use Rattle.script_text.specs.Tokens.{Shape, shape, form_of, tokens_from}
-use Rattle.reading_back.specs.Claims.{World, Frame, Spot, rest_of, deeper, Read, below, Flows, IsExpr, Part, Fit}
-use Rattle.reading_back.specs.Marks.{joins}
+use Rattle.reading_back.proofs.Claims.{World, Frame, Spot, rest_of, deeper, Read, below, Flows, IsExpr, Part, Fit}
+use Rattle.reading_back.proofs.Marks.{joins}
 use Rattle.reading_back.specs.Unplaced as unplaced
 use Rattle.reading_back.proofs.Flowing.{flows_last, flows_token, spread}
 use Rattle.reading_back.proofs.Ladder.{behind_target, logical_or_of, conditional_of, from_conditional, from_assignment, from_commas}

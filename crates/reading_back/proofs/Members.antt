@@ -16,8 +16,8 @@ use Rattle.js_grammar.proofs.Laws.{repeated}
 use Rattle.script_text.specs.Expressions.{name}
 use Rattle.script_text.specs.Pieces.{Piece, closing, inner}
 use Rattle.script_text.specs.Tokens.{Shape, shape, form_of, name_form, tokens_from}
-use Rattle.reading_back.specs.Claims.{World, rest_of, deeper, Read, anything, IsExpr, Part, Fit}
-use Rattle.reading_back.specs.Marks.{joins}
+use Rattle.reading_back.proofs.Claims.{World, rest_of, deeper, Read, anything, IsExpr, Part, Fit}
+use Rattle.reading_back.proofs.Marks.{joins}
 use Rattle.reading_back.specs.Unplaced as unplaced
 use Rattle.reading_back.proofs.Flowing.{flows_last, flows_token, spread}
 use Rattle.reading_back.proofs.Groups.{expression_reads}

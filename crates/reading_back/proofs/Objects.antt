@@ -17,8 +17,8 @@ use Rattle.js_grammar.specs.Rest.{◌>>◌, give, next, expect, repeat}
 use Rattle.js_grammar.proofs.Laws.{repeated}
 use Rattle.script_text.specs.Pieces.{Piece, opening, closing, separated, behind_commas}
 use Rattle.script_text.specs.Tokens.{Shape, shape, form_of, tokens_from}
-use Rattle.reading_back.specs.Claims.{World, Frame, Spot, rest_of, Leads, Ready, Read, anything, below, First, IsExpr, IsField, Part, FieldPart}
-use Rattle.reading_back.specs.Marks.{joins, begins_none, begins_unary, begins_statement, begins_other}
+use Rattle.reading_back.proofs.Claims.{World, Frame, Spot, rest_of, Leads, Ready, Read, anything, below, First, IsExpr, IsField, Part, FieldPart}
+use Rattle.reading_back.proofs.Marks.{joins, begins_none, begins_unary, begins_statement, begins_other}
 use Rattle.reading_back.specs.Unplaced as unplaced
 use Rattle.reading_back.proofs.Flowing.{flows_last, flows_token, spread}
 use Rattle.reading_back.proofs.Ladder.{from_operand}

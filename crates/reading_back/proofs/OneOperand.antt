@@ -24,8 +24,8 @@ use Rattle.js_grammar.proofs.Laws.{tied}
 use Rattle.script_text.specs.Expressions.{unary_operator}
 use Rattle.script_text.specs.Pieces.{Piece, closing, prefix}
 use Rattle.script_text.specs.Tokens.{Shape, shape, form_of, tokens_from}
-use Rattle.reading_back.specs.Claims.{World, Frame, Spot, rest_of, deeper, Read, below, First, IsExpr, Part, Fit}
-use Rattle.reading_back.specs.Marks.{joins, begins_none, begins_statement, begins_other}
+use Rattle.reading_back.proofs.Claims.{World, Frame, Spot, rest_of, deeper, Read, below, First, IsExpr, Part, Fit}
+use Rattle.reading_back.proofs.Marks.{joins, begins_none, begins_statement, begins_other}
 use Rattle.reading_back.proofs.Flowing.{flows_last, flows_token, spread}
 use Rattle.reading_back.proofs.Ladder.{behind_operand, left_hand_side_of, from_unary, from_postfix}
 use Rattle.reading_back.proofs.Same.{same_layers, same_name, same_target}

@@ -9,7 +9,7 @@ use Rattle.js_tree.specs.declared.expression.ExprForm.TheOpen.{ExprForm-F}
 use Rattle.js_tree.specs.declared.expression.ExprForm.TheFolds.{map-ExprForm, fold_out-Expr}
 use Rattle.js_tree.proofs.Folds.{fold-layer}
 use Rattle.js_grammar.specs.Expressions.{is_name, is_target}
-use Rattle.reading_back.specs.Claims.{IsExpr}
+use Rattle.reading_back.proofs.Claims.{IsExpr}
 use Rattle.reading_back.specs.Unplaced as unplaced
 
 abbrev pub Layer : Type 0

@@ -25,7 +25,7 @@ use Rattle.script_text.specs.Pieces.{Piece}
 use Rattle.script_text.specs.Printing.{function_to, script_pieces}
 use Rattle.script_text.specs.Statements.{code}
 use Rattle.script_text.specs.Tokens.{shape_of, tokens_from}
-use Rattle.reading_back.specs.Claims.{World, Frame, Spot, Supply, placed, rest_of, Leads, Ready, SameAt, FunctionsRead}
+use Rattle.reading_back.proofs.Claims.{World, Frame, Spot, Supply, placed, rest_of, Leads, Ready, SameAt, FunctionsRead}
 use Rattle.reading_back.specs.ReadsBack.{ReadsTo, ReadsBack}
 use Rattle.reading_back.specs.Unplaced as unplaced
 use Rattle.reading_back.proofs.FunctionBodies.{ElementsRead, Elements, elements_of}

@@ -23,8 +23,8 @@ use Rattle.js_grammar.specs.Rest.{Rest, ◌>>=◌, finish_stmt}
 use Rattle.js_grammar.specs.Statements as S
 use Rattle.script_text.specs.Pieces.{Piece, word}
 use Rattle.script_text.specs.Tokens.{Shape, shape, form_of, tokens_from}
-use Rattle.reading_back.specs.Claims.{World, Frame, Spot, rest_of, FunctionsRead}
-use Rattle.reading_back.specs.StatementClaims.{ends_list, StmtPart, ElementPart}
+use Rattle.reading_back.proofs.Claims.{World, Frame, Spot, rest_of, FunctionsRead}
+use Rattle.reading_back.proofs.StatementClaims.{ends_list, StmtPart, ElementPart}
 use Rattle.reading_back.proofs.Flowing.{flows_token}
 use Rattle.reading_back.proofs.StatementSteps.{same_stmts, token_first, finishes_stmt}
 use Rattle.reading_back.proofs.Steps.{from, bind, next_some}

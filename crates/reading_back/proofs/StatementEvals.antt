@@ -34,9 +34,9 @@ use Rattle.script_text.specs.Expressions.{reference}
 use Rattle.script_text.specs.Pieces as pieces
 use Rattle.script_text.specs.Pieces.{Piece, closing}
 use Rattle.script_text.specs.Tokens.{Shape, shape, form_of, name_form, reserved_or_name, mark_or_else, tokens_from}
-use Rattle.reading_back.specs.Claims.{World, Frame, Spot, Supply, placed, rest_of, Leads, Ready, Read, anything, below, Look, First, IsExpr, Part, Fit}
-use Rattle.reading_back.specs.Marks.{begins_none, begins_statement, begins_other}
-use Rattle.reading_back.specs.StatementClaims.{ends_list, StmtPart}
+use Rattle.reading_back.proofs.Claims.{World, Frame, Spot, Supply, placed, rest_of, Leads, Ready, Read, anything, below, Look, First, IsExpr, Part, Fit}
+use Rattle.reading_back.proofs.Marks.{begins_none, begins_statement, begins_other}
+use Rattle.reading_back.proofs.StatementClaims.{ends_list, StmtPart}
 use Rattle.reading_back.proofs.Flowing.{flows_last, flows_token, spread}
 use Rattle.reading_back.proofs.Joining.{begins, first_none}
 use Rattle.reading_back.proofs.Ladder.{no_more_commas, calls_of, postfix_of, unary_of, climb_of, conditional_of, looser, assignment_of, commas_of}

@@ -21,9 +21,9 @@ use Rattle.js_grammar.specs.Statements as S
 use Rattle.script_text.specs.Expressions.{name}
 use Rattle.script_text.specs.Pieces.{Piece, word, opening, closing}
 use Rattle.script_text.specs.Tokens.{Shape, shape, form_of, name_form, tokens_from}
-use Rattle.reading_back.specs.Claims.{World, Frame, Spot, rest_of, deeper, Leads, Ready, Read, Flows, IsExpr, Fit}
-use Rattle.reading_back.specs.Marks.{joins}
-use Rattle.reading_back.specs.StatementClaims.{IsStmt, NoElse, StmtPart}
+use Rattle.reading_back.proofs.Claims.{World, Frame, Spot, rest_of, deeper, Leads, Ready, Read, Flows, IsExpr, Fit}
+use Rattle.reading_back.proofs.Marks.{joins}
+use Rattle.reading_back.proofs.StatementClaims.{IsStmt, NoElse, StmtPart}
 use Rattle.reading_back.specs.Unplaced as unplaced
 use Rattle.reading_back.proofs.Flowing.{flows_last, spread}
 use Rattle.reading_back.proofs.FunctionNames.{IsDeclared, name_lead}

@@ -31,8 +31,8 @@ use Rattle.script_text.specs.Pieces.{Piece, word, closing, separated}
 use Rattle.script_text.specs.Statements as shown
 use Rattle.script_text.specs.Statements.{Shown, head, block, for_head, for_rest, for_in_head, in_rest, end_of_do, catch_head}
 use Rattle.script_text.specs.Tokens.{Shape, tokens_from}
-use Rattle.reading_back.specs.Claims.{World, FunctionsRead}
-use Rattle.reading_back.specs.StatementClaims.{StmtPart, ElementPart}
+use Rattle.reading_back.proofs.Claims.{World, FunctionsRead}
+use Rattle.reading_back.proofs.StatementClaims.{StmtPart, ElementPart}
 use Rattle.reading_back.proofs.FunctionBodies.{ElementsRead}
 use Rattle.reading_back.proofs.Readability.{both}
 use Rattle.reading_back.proofs.StatementElements.{element_of, declaration_part}

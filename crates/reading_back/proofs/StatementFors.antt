@@ -24,9 +24,9 @@ use Rattle.js_grammar.specs.Rest.{Reading, ◌>>=◌, give, next, sees}
 use Rattle.js_grammar.specs.Statements as S
 use Rattle.script_text.specs.Pieces.{Piece, word, opening, closing, separated, behind_commas}
 use Rattle.script_text.specs.Tokens.{Shape, shape, form_of, name_form, tokens_from}
-use Rattle.reading_back.specs.Claims.{World, Frame, Spot, rest_of, deeper, Leads, Ready, Read, Fit}
-use Rattle.reading_back.specs.Marks.{joins, begins_statement}
-use Rattle.reading_back.specs.StatementClaims.{IsStmt, ends_list, NoElse, StmtPart}
+use Rattle.reading_back.proofs.Claims.{World, Frame, Spot, rest_of, deeper, Leads, Ready, Read, Fit}
+use Rattle.reading_back.proofs.Marks.{joins, begins_statement}
+use Rattle.reading_back.proofs.StatementClaims.{IsStmt, ends_list, NoElse, StmtPart}
 use Rattle.reading_back.specs.Unplaced as unplaced
 use Rattle.reading_back.proofs.Flowing.{flows_last, spread}
 use Rattle.reading_back.proofs.FunctionNames.{name_lead}

@@ -17,9 +17,9 @@ use Rattle.js_grammar.specs.Statements as S
 use Rattle.script_text.specs.Pieces.{Piece, word, closing}
 use Rattle.script_text.specs.Statements.{else_word, line_end_unless}
 use Rattle.script_text.specs.Tokens.{Shape, shape, form_of, tokens_from}
-use Rattle.reading_back.specs.Claims.{World, Frame, Spot, Leads, Ready, Read, Flows, Fit}
-use Rattle.reading_back.specs.StatementClaims.{IsStmt, ends_list, is_else, is_finally, NoElse, StmtPart}
-use Rattle.reading_back.specs.Marks.{joins}
+use Rattle.reading_back.proofs.Claims.{World, Frame, Spot, Leads, Ready, Read, Flows, Fit}
+use Rattle.reading_back.proofs.StatementClaims.{IsStmt, ends_list, is_else, is_finally, NoElse, StmtPart}
+use Rattle.reading_back.proofs.Marks.{joins}
 use Rattle.reading_back.specs.Unplaced as unplaced
 use Rattle.reading_back.proofs.Flowing.{flows_last, flows_token, spread}
 use Rattle.reading_back.proofs.StatementSteps.{same_stmts, unplaced_parts, semicolon, left_parenthesis, right_parenthesis, begins_with, token_first, finishes_stmt, ended, head_pieces, split_head, head_reads, stmt_reads}

@@ -24,8 +24,8 @@ use Rattle.js_grammar.proofs.Laws.{repeated}
 use Rattle.script_text.specs.Pieces.{Piece, LineEnd, Close, word, opening, closing}
 use Rattle.script_text.specs.Statements.{Shown, lines, line, block, in_braces, begin_braces, end_braces, is_empty}
 use Rattle.script_text.specs.Tokens.{Shape, shape, form_of, tokens_from}
-use Rattle.reading_back.specs.Claims.{World, Frame, Spot, rest_of, Leads, Ready, Flows}
-use Rattle.reading_back.specs.StatementClaims.{IsStmt, ends_list, StmtFirst, is_else, is_finally, StmtPart}
+use Rattle.reading_back.proofs.Claims.{World, Frame, Spot, rest_of, Leads, Ready, Flows}
+use Rattle.reading_back.proofs.StatementClaims.{IsStmt, ends_list, StmtFirst, is_else, is_finally, StmtPart}
 use Rattle.reading_back.specs.Unplaced as unplaced
 use Rattle.reading_back.proofs.Flowing.{flows_last, flows_token, spread}
 use Rattle.reading_back.proofs.StatementSteps.{same_stmts, begins_with, token_first, finishes_stmt, stmt_reads}

@@ -18,7 +18,7 @@ use Rattle.script_text.specs.Expressions as text
 use Rattle.script_text.specs.Expressions.{name}
 use Rattle.script_text.specs.Pieces.{Piece, word, closing, separated, behind_commas}
 use Rattle.script_text.specs.Statements as shown
-use Rattle.reading_back.specs.Claims.{World, Fit, FunctionsRead}
+use Rattle.reading_back.proofs.Claims.{World, Fit, FunctionsRead}
 use Rattle.reading_back.proofs.Forms.{ExprReads, exprs_read}
 use Rattle.reading_back.proofs.FunctionNames.{is_declared}
 use Rattle.reading_back.proofs.Groups.{fit, group_look, group}

@@ -26,8 +26,8 @@ use Rattle.js_grammar.proofs.Laws.{tied}
 use Rattle.script_text.specs.Pieces as piece
 use Rattle.script_text.specs.Pieces.{Piece, word, opening, closing}
 use Rattle.script_text.specs.Tokens.{Shape, shape, form_of, tokens_from}
-use Rattle.reading_back.specs.Claims.{World, Frame, Spot, rest_of, deeper, Leads, Ready, Read, Flows, IsExpr, Fit}
-use Rattle.reading_back.specs.StatementClaims.{IsStmt, ends_list, StmtFirst, NoElse, StmtPart}
+use Rattle.reading_back.proofs.Claims.{World, Frame, Spot, rest_of, deeper, Leads, Ready, Read, Flows, IsExpr, Fit}
+use Rattle.reading_back.proofs.StatementClaims.{IsStmt, ends_list, StmtFirst, NoElse, StmtPart}
 use Rattle.reading_back.specs.Unplaced as unplaced
 use Rattle.reading_back.proofs.Flowing.{spread}
 use Rattle.reading_back.proofs.Groups.{expression_reads, right_parenthesis_is, right_parenthesis_joins}

@@ -27,8 +27,8 @@ use Rattle.js_grammar.proofs.Laws.{repeated}
 use Rattle.script_text.specs.Pieces.{Piece, Open, Close, LineEnd, word, closing}
 use Rattle.script_text.specs.Statements.{clause, in_switch, begin_braces, end_braces, is_empty}
 use Rattle.script_text.specs.Tokens.{Shape, shape, form_of, tokens_from}
-use Rattle.reading_back.specs.Claims.{World, Frame, Spot, rest_of, Leads, Ready, Read, Flows, Fit}
-use Rattle.reading_back.specs.StatementClaims.{IsStmt, ends_list, is_else, NoElse, StmtPart}
+use Rattle.reading_back.proofs.Claims.{World, Frame, Spot, rest_of, Leads, Ready, Read, Flows, Fit}
+use Rattle.reading_back.proofs.StatementClaims.{IsStmt, ends_list, is_else, NoElse, StmtPart}
 use Rattle.reading_back.specs.Unplaced as unplaced
 use Rattle.reading_back.proofs.Flowing.{flows_last, flows_token, spread}
 use Rattle.reading_back.proofs.Groups.{expression_reads}

@@ -27,8 +27,8 @@ use Rattle.script_text.specs.Expressions.{name}
 use Rattle.script_text.specs.Pieces.{Piece, Bind, Release, word}
 use Rattle.script_text.specs.Statements.{block, catch_head, binding}
 use Rattle.script_text.specs.Tokens.{Shape, shape, form_of, name_form, tokens_from}
-use Rattle.reading_back.specs.Claims.{World, Frame, Spot, rest_of, deeper, Leads, Ready, Read, Flows}
-use Rattle.reading_back.specs.StatementClaims.{IsStmt, ends_list, is_finally, NoElse, StmtPart}
+use Rattle.reading_back.proofs.Claims.{World, Frame, Spot, rest_of, deeper, Leads, Ready, Read, Flows}
+use Rattle.reading_back.proofs.StatementClaims.{IsStmt, ends_list, is_finally, NoElse, StmtPart}
 use Rattle.reading_back.specs.Unplaced as unplaced
 use Rattle.reading_back.proofs.Flowing.{flows_last, spread}
 use Rattle.reading_back.proofs.FunctionBodies.{flows_release}

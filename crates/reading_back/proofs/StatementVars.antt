@@ -22,8 +22,8 @@ use Rattle.js_grammar.proofs.Laws.{repeated}
 use Rattle.script_text.specs.Expressions.{name}
 use Rattle.script_text.specs.Pieces.{Piece, word, closing, separated, behind_commas}
 use Rattle.script_text.specs.Tokens.{Shape, shape, form_of, name_form, tokens_from}
-use Rattle.reading_back.specs.Claims.{World, Frame, Spot, rest_of, Leads, Ready, below, Fit}
-use Rattle.reading_back.specs.StatementClaims.{ends_list, StmtPart}
+use Rattle.reading_back.proofs.Claims.{World, Frame, Spot, rest_of, Leads, Ready, below, Fit}
+use Rattle.reading_back.proofs.StatementClaims.{ends_list, StmtPart}
 use Rattle.reading_back.specs.Unplaced as unplaced
 use Rattle.reading_back.proofs.Flowing.{flows_last, flows_token, spread}
 use Rattle.reading_back.proofs.FunctionNames.{IsName, IsDeclared, name_lead}

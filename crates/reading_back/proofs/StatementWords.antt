@@ -15,8 +15,8 @@ use Rattle.js_grammar.specs.Rest.{Rest, behind, ◌>>=◌, give, next, finish_st
 use Rattle.js_grammar.specs.Statements as S
 use Rattle.script_text.specs.Pieces.{Piece, word, closing}
 use Rattle.script_text.specs.Tokens.{Shape, shape, form_of, tokens_from}
-use Rattle.reading_back.specs.Claims.{World, Frame, Spot, rest_of, Leads, Ready, Flows, IsExpr, Fit}
-use Rattle.reading_back.specs.StatementClaims.{ends_list, StmtPart}
+use Rattle.reading_back.proofs.Claims.{World, Frame, Spot, rest_of, Leads, Ready, Flows, IsExpr, Fit}
+use Rattle.reading_back.proofs.StatementClaims.{ends_list, StmtPart}
 use Rattle.reading_back.proofs.Flowing.{flows_last, flows_token, spread}
 use Rattle.reading_back.proofs.Groups.{expression_reads}
 use Rattle.reading_back.proofs.Joining.{begins}

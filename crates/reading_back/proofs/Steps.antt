@@ -10,7 +10,7 @@ use Rattle.js_tree.specs.declared.token.TokenForm.{TokenForm}
 use Rattle.js_grammar.specs.FunctionOrder.{Numbers}
 use Rattle.js_grammar.specs.Rest.{Rest, Reading, behind, ◌>>=◌, give, next, of_first, passed, part, enter, leave, finish, expect, unexpected}
 use Rattle.script_text.specs.Tokens.{Shape}
-use Rattle.reading_back.specs.Claims.{World, Frame, Spot, rest_of, deeper, Leads, Ready}
+use Rattle.reading_back.proofs.Claims.{World, Frame, Spot, rest_of, deeper, Leads, Ready}
 
 -- the first token was taken
 abbrev pub after : Spot → Shape → Spot

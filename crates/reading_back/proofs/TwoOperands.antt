@@ -21,8 +21,8 @@ use Rattle.script_text.specs.Expressions.{operator, logic_operator, binary_level
 use Rattle.script_text.specs.Pieces as piece
 use Rattle.script_text.specs.Pieces.{Piece, word}
 use Rattle.script_text.specs.Tokens.{Shape, shape, form_of, tokens_from}
-use Rattle.reading_back.specs.Claims.{World, Frame, rest_of, Ready, Read, below, Flows, First, Look, IsExpr, Part, Fit}
-use Rattle.reading_back.specs.Marks.{joins}
+use Rattle.reading_back.proofs.Claims.{World, Frame, rest_of, Ready, Read, below, Flows, First, Look, IsExpr, Part, Fit}
+use Rattle.reading_back.proofs.Marks.{joins}
 use Rattle.reading_back.proofs.Flowing.{flows_last, flows_token, spread}
 use Rattle.reading_back.proofs.Joining.{no_operator, binary_is_found, logic_is_found, binary_joins, logic_joins, is_in_op}
 use Rattle.reading_back.proofs.Ladder.{from_climb}

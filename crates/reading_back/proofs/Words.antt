@@ -20,8 +20,8 @@ use Rattle.js_grammar.specs.Rest.{◌>>=◌, give, finish, next}
 use Rattle.script_text.specs.Expressions.{literal, reference}
 use Rattle.script_text.specs.Pieces.{Piece, word}
 use Rattle.script_text.specs.Tokens.{Shape, shape, form_of, tokens_from}
-use Rattle.reading_back.specs.Claims.{World, Frame, Spot, rest_of, Read, anything, First, Look, IsExpr, Part, FunctionsRead}
-use Rattle.reading_back.specs.Marks.{begins_none, begins_unary, begins_statement, begins_other}
+use Rattle.reading_back.proofs.Claims.{World, Frame, Spot, rest_of, Read, anything, First, Look, IsExpr, Part, FunctionsRead}
+use Rattle.reading_back.proofs.Marks.{begins_none, begins_unary, begins_statement, begins_other}
 use Rattle.reading_back.proofs.Flowing.{flows_token}
 use Rattle.reading_back.proofs.Ladder.{from_operand}
 use Rattle.reading_back.proofs.Names.{identifier_form}

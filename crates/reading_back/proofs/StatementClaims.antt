@@ -9,7 +9,7 @@ use Rattle.js_grammar.specs.Rest.{give}
 use Rattle.js_grammar.specs.Statements as S
 use Rattle.script_text.specs.Pieces.{Piece}
 use Rattle.script_text.specs.Tokens.{Shape, shape, tokens_from}
-use Rattle.reading_back.specs.Claims.{World, Flows, Read}
+use Rattle.reading_back.proofs.Claims.{World, Flows, Read}
 use Rattle.reading_back.specs.Unplaced as unplaced
 
 -- the same but for places

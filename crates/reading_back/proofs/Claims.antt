@@ -22,7 +22,7 @@ use Rattle.js_grammar.specs.Rest.{Rest, Reading, ◌>>=◌, give, repeat}
 use Rattle.script_text.specs.Expressions.{Printed, tokens}
 use Rattle.script_text.specs.Pieces.{Piece, word}
 use Rattle.script_text.specs.Tokens.{Shape, shape, tokens_from}
-use Rattle.reading_back.specs.Marks.{joins_first, begins_none, begins_unary, begins_statement, begins_other}
+use Rattle.reading_back.proofs.Marks.{joins_first, begins_none, begins_unary, begins_statement, begins_other}
 use Rattle.reading_back.specs.Unplaced as unplaced
 
 -- ---- states of reading
