@@ -20,12 +20,12 @@ use Rattle.js_tree.specs.declared.expression.ExprForm.TheFolds.{map-ExprForm}
 use Rattle.js_tree.specs.declared.expression.ExprForm.TheVariants as e
 use Rattle.js_tree.proofs.Folds.{fold-layer}
 use Rattle.script_text.specs.Pieces.{Piece, word, closing, opening, inner, separated, behind_commas}
-use Rattle.js_printer.specs.Sheets.{put_all}
-use Rattle.js_printer.specs.declared.sheet.Sheet.{Sheet}
+use Rattle.token_sheets.specs.Sheets.{put_all}
+use Rattle.token_sheets.specs.declared.sheet.Sheet.{Sheet}
 use Rattle.script_text.specs.Expressions.{Printed, tokens, name, reference, literal, input, of_form, of_field, pieces, printed_form, printed_field, printed, at, object, callee_of_new, index, in_parentheses, argument, value}
 use Rattle.script_text.specs.Expressions.{element, elements, ends_in_elision, is_elision, last_comma, starts_at, is_postfix, binary_level, logic_level, branch, stepped, host_call}
 use Rattle.script_text.specs.Expressions.{operator, logic_operator, assignment_operator, unary_operator}
-use Rattle.js_printer.proofs.Putting.{put_all-append}
+use Rattle.token_sheets.proofs.Putting.{put_all-append}
 
 separated-along : {A B : Type 0} (f : B → List Piece) (v : A → B) (xs : List A) → separated f (map v xs) ≡ separated (λ x. f (v x)) xs
 separated-along f v [] = refl

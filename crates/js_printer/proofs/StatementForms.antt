@@ -19,12 +19,12 @@ use Rattle.js_tree.specs.declared.statement.StmtForm.TheOpen.{StmtForm-F}
 use Rattle.js_tree.specs.declared.statement.StmtForm.TheFolds.{map-StmtForm, fold_out-StmtForm, fold_out-Case, fold_out-Catch, fold_out-Finally, fold_out-Stmt}
 use Rattle.js_tree.specs.declared.statement.StmtForm.TheVariants as s
 use Rattle.script_text.specs.Pieces.{Piece, LineEnd, Close, Bind, Release, word, closing}
-use Rattle.js_printer.specs.Sheets.{put, put_all}
-use Rattle.js_printer.specs.declared.sheet.Sheet.{Sheet}
+use Rattle.token_sheets.specs.Sheets.{put, put_all}
+use Rattle.token_sheets.specs.declared.sheet.Sheet.{Sheet}
 use Rattle.script_text.specs.Expressions.{expr, maybe_expr}
 use Rattle.script_text.specs.Statements.{Shown, of_form, of_case, of_catch, of_finally, shown, shown_form, shown_case, shown_catch, shown_finally}
 use Rattle.script_text.specs.Statements.{declarators, evaluation, head, block, else_word, end_of_do, for_head, for_in_head, clauses, line, lines, label, clause_start, catch_head, binding, is_empty, in_braces, in_switch}
-use Rattle.js_printer.proofs.Putting.{put_all-append}
+use Rattle.token_sheets.proofs.Putting.{put_all-append}
 
 is_empty-along : {A B : Type 0} (v : A → B) (xs : List A) → is_empty (map v xs) ≡ is_empty xs
 is_empty-along v xs = ap (λ n. n == 0) (length-map xs v)

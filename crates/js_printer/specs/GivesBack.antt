@@ -1,13 +1,16 @@
 -- The text of a script gives it back.
-use Rattle.std.specs.Prelude.{◌≡◌, ℕ, List, Ok}
+use Rattle.std.specs.Prelude.{◌≡◌, ◌≤◌, ℕ, List, Ok}
+use Rattle.js_grammar.specs.Reading.{read}
 use Rattle.js_tree.specs.Lexing.{lexed}
 use Rattle.js_tree.specs.declared.statement.Script.{Script}
 use Rattle.js_tree.specs.declared.token.Tokens.{Tokens}
 use Rattle.reading_back.specs.ReadsBack.{ReadsTo}
 
 -- The text has no fault of tokens, and these give the script but for places: where enough parts may be open at once and trees of
--- any height are allowed, and with any limit unless something is nested too deep.
+-- any height are allowed, and with any limit unless something is nested too deep. The nesting of the script is the least limit
+-- with which nothing is; with every limit that is no less its text reads to the script.
 pub record GivesBack (text : List ℕ) (s : Script) : Type 0 where
   pub tokens : Tokens
   pub lexes : lexed text ≡ Ok tokens
   pub reads : ReadsTo tokens s
+  pub no_less : (nesting limit : ℕ) → nesting ≤ limit → read tokens nesting ≡ Ok reads.tree → read tokens limit ≡ Ok reads.tree

@@ -1,3 +1,2 @@
 pub mod GivesBack
-pub mod Sheets
 pub mod Writes

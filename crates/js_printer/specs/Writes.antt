@@ -5,8 +5,8 @@ use denote.Ref.{Bor, MutBor}
 use Rattle.js_value.specs.declared.memory.NoMemory.{NoMemory}
 use Rattle.js_value.specs.declared.place.FuncNo.{FuncNo}
 use Rattle.js_tree.specs.declared.statement.Func.{Func}
-use Rattle.js_printer.specs.Sheets.{put_all}
-use Rattle.js_printer.specs.declared.sheet.Sheet.{Sheet}
+use Rattle.token_sheets.specs.Sheets.{put_all}
+use Rattle.token_sheets.specs.declared.sheet.Sheet.{Sheet}
 use Rattle.script_text.specs.Printing.{function_to}
 
 pub record Writes (funcs : List Func) (depth : ℕ) (pre : Global → Bor (List Func) → MutBor Sheet → ℕ → FuncNo → Bool → Type 0)

@@ -3,21 +3,20 @@
 ghost use Rattle.std.specs.Prelude.{◌≡◌, ◌++◌, ◌∷◌, [], map, OnOk, true, false};
 ghost use Rattle.std.specs.Option.{option_map};
 ghost use Rattle.script_text.specs.Expressions as spec;
-ghost use Rattle.js_printer.specs.Sheets.{put_all};
+ghost use Rattle.token_sheets.specs.Sheets.{put_all};
 ghost use Rattle.script_text.specs.Pieces.{separated, behind_commas};
 ghost use Rattle.script_text.specs.Printing.{function_to};
 ghost use Rattle.js_printer.specs.Writes.{Writes};
 
 use crate::leftmost::calls;
-use crate::sheet::Sheet;
-use crate::words::{
-    assignment_operator, binary_level, is_in, is_number, key, level, literal, logic_level,
-    logic_operator, operator, two_literals, unary_operator,
-};
 use js_tree::{Expr, ExprForm, Field, Func, StepOp};
 use js_value::{FuncNo, Kind, NoMemory, Text};
 use script_text::Gap;
 use std::alloc::Global;
+use token_sheets::{
+    Sheet, assignment_operator, binary_level, is_in, is_number, key, level, literal, logic_level,
+    logic_operator, operator, two_literals, unary_operator,
+};
 
 /// Writes trees whose functions are these.
 #[derive(Clone, Copy)]
@@ -42,7 +41,7 @@ impl<F: Fn(Global, &[Func], &mut Sheet, usize, FuncNo, bool) -> Result<(), NoMem
     }
 
     #[cycle(expression)]
-    #[tactic(auto, using(crate::proofs::Putting::appended))]
+    #[tactic(auto, using(token_sheets::proofs::Putting::appended))]
     pub fn grouped(
         &self,
         page: &mut Sheet,
@@ -63,7 +62,7 @@ impl<F: Fn(Global, &[Func], &mut Sheet, usize, FuncNo, bool) -> Result<(), NoMem
 
     /// An expression where one of at least a level is taken, and where `in` is an operator or not.
     #[cycle(expression)]
-    #[tactic(auto, using(crate::proofs::Putting::appended))]
+    #[tactic(auto, using(token_sheets::proofs::Putting::appended))]
     pub fn expr(
         &self,
         page: &mut Sheet,
@@ -80,7 +79,7 @@ impl<F: Fn(Global, &[Func], &mut Sheet, usize, FuncNo, bool) -> Result<(), NoMem
 
     /// What stands before a point.
     #[cycle(expression)]
-    #[tactic(auto, using(crate::proofs::Putting::appended))]
+    #[tactic(auto, using(token_sheets::proofs::Putting::appended))]
     fn object(&self, page: &mut Sheet, e: &Expr, allows_in: bool) -> Result<(), NoMemory>
         requires { Writes self.now.funcs.now self.now.depth (F.pre self.now.function) (F.post self.now.function) }
         ensures { OnOk result (page.new ≡ put_all (spec.object allows_in (spec.printed (function_to self.now.depth self.now.funcs.now) e.now)) page.old) }
@@ -90,7 +89,7 @@ impl<F: Fn(Global, &[Func], &mut Sheet, usize, FuncNo, bool) -> Result<(), NoMem
     }
 
     #[cycle(expression)]
-    #[tactic(auto, using(crate::proofs::Putting::appended))]
+    #[tactic(auto, using(token_sheets::proofs::Putting::appended))]
     fn callee_of_new(&self, page: &mut Sheet, e: &Expr, allows_in: bool) -> Result<(), NoMemory>
         requires { Writes self.now.funcs.now self.now.depth (F.pre self.now.function) (F.post self.now.function) }
         ensures { OnOk result (page.new ≡ put_all (spec.callee_of_new allows_in (spec.printed (function_to self.now.depth self.now.funcs.now) e.now)) page.old) }
@@ -182,7 +181,7 @@ impl<F: Fn(Global, &[Func], &mut Sheet, usize, FuncNo, bool) -> Result<(), NoMem
 
     /// `[key]`
     #[cycle(expression)]
-    #[tactic(auto, using(crate::proofs::Putting::appended), unfolding(script_text::specs::Expressions::index))]
+    #[tactic(auto, using(token_sheets::proofs::Putting::appended), unfolding(script_text::specs::Expressions::index))]
     fn index(&self, page: &mut Sheet, key: &Expr) -> Result<(), NoMemory>
         requires { Writes self.now.funcs.now self.now.depth (F.pre self.now.function) (F.post self.now.function) }
         ensures { OnOk result (page.new ≡ put_all (spec.index (spec.printed (function_to self.now.depth self.now.funcs.now) key.now)) page.old) }
@@ -194,7 +193,7 @@ impl<F: Fn(Global, &[Func], &mut Sheet, usize, FuncNo, bool) -> Result<(), NoMem
 
     /// `(a, b)`
     #[cycle(expression)]
-    #[tactic(auto, using(crate::proofs::Putting::appended))]
+    #[tactic(auto, using(token_sheets::proofs::Putting::appended))]
     fn arguments(&self, page: &mut Sheet, all: &[Expr]) -> Result<(), NoMemory>
         requires { Writes self.now.funcs.now self.now.depth (F.pre self.now.function) (F.post self.now.function) }
         ensures { OnOk result (page.new ≡ put_all (spec.in_parentheses (separated (spec.argument (function_to self.now.depth self.now.funcs.now)) all.now)) page.old) }
@@ -205,7 +204,7 @@ impl<F: Fn(Global, &[Func], &mut Sheet, usize, FuncNo, bool) -> Result<(), NoMem
     }
 
     #[cycle(expression)]
-    #[tactic(auto, using(crate::proofs::Putting::appended))]
+    #[tactic(auto, using(token_sheets::proofs::Putting::appended))]
     fn values(&self, page: &mut Sheet, all: &[Expr]) -> Result<(), NoMemory>
         requires { Writes self.now.funcs.now self.now.depth (F.pre self.now.function) (F.post self.now.function) }
         ensures { OnOk result (page.new ≡ put_all (separated (spec.argument (function_to self.now.depth self.now.funcs.now)) all.now) page.old) }
@@ -222,7 +221,7 @@ impl<F: Fn(Global, &[Func], &mut Sheet, usize, FuncNo, bool) -> Result<(), NoMem
 
     /// `, a, b`
     #[cycle(expression)]
-    #[tactic(auto, using(crate::proofs::Putting::appended))]
+    #[tactic(auto, using(token_sheets::proofs::Putting::appended))]
     fn values_behind(&self, page: &mut Sheet, all: &[Expr]) -> Result<(), NoMemory>
         requires { Writes self.now.funcs.now self.now.depth (F.pre self.now.function) (F.post self.now.function) }
         ensures { OnOk result (page.new ≡ put_all (behind_commas (spec.argument (function_to self.now.depth self.now.funcs.now)) all.now) page.old) }
@@ -236,7 +235,7 @@ impl<F: Fn(Global, &[Func], &mut Sheet, usize, FuncNo, bool) -> Result<(), NoMem
 
     /// The inside of an array literal (11.1.4).
     #[cycle(expression)]
-    #[tactic(auto, using(crate::proofs::Putting::appended))]
+    #[tactic(auto, using(token_sheets::proofs::Putting::appended))]
     fn elements(&self, page: &mut Sheet, all: &[Option<Expr>]) -> Result<(), NoMemory>
         requires { Writes self.now.funcs.now self.now.depth (F.pre self.now.function) (F.post self.now.function) }
         ensures { OnOk result (page.new ≡ put_all (spec.elements (function_to self.now.depth self.now.funcs.now) all.now) page.old) }
@@ -257,7 +256,7 @@ impl<F: Fn(Global, &[Func], &mut Sheet, usize, FuncNo, bool) -> Result<(), NoMem
 
     /// The inside of an object literal (11.1.5).
     #[cycle(expression)]
-    #[tactic(auto, using(crate::proofs::Putting::appended))]
+    #[tactic(auto, using(token_sheets::proofs::Putting::appended))]
     fn fields(&self, page: &mut Sheet, all: &[Field]) -> Result<(), NoMemory>
         requires { Writes self.now.funcs.now self.now.depth (F.pre self.now.function) (F.post self.now.function) }
         ensures { OnOk result (page.new ≡ put_all (separated (spec.printed_field (function_to self.now.depth self.now.funcs.now)) all.now) page.old) }
@@ -273,7 +272,7 @@ impl<F: Fn(Global, &[Func], &mut Sheet, usize, FuncNo, bool) -> Result<(), NoMem
     }
 
     #[cycle(expression)]
-    #[tactic(auto, using(crate::proofs::Putting::appended))]
+    #[tactic(auto, using(token_sheets::proofs::Putting::appended))]
     fn field(&self, page: &mut Sheet, field: &Field) -> Result<(), NoMemory>
         requires { Writes self.now.funcs.now self.now.depth (F.pre self.now.function) (F.post self.now.function) }
         ensures { OnOk result (page.new ≡ put_all (spec.printed_field (function_to self.now.depth self.now.funcs.now) field.now) page.old) }
@@ -299,7 +298,7 @@ impl<F: Fn(Global, &[Func], &mut Sheet, usize, FuncNo, bool) -> Result<(), NoMem
 
     /// `? a` and `: b` of a conditional expression (11.12).
     #[cycle(expression)]
-    #[tactic(auto, using(crate::proofs::Putting::appended), unfolding(script_text::specs::Expressions::branch))]
+    #[tactic(auto, using(token_sheets::proofs::Putting::appended), unfolding(script_text::specs::Expressions::branch))]
     fn choice(
         &self,
         page: &mut Sheet,
@@ -316,7 +315,7 @@ impl<F: Fn(Global, &[Func], &mut Sheet, usize, FuncNo, bool) -> Result<(), NoMem
 
     /// `++` and `--` (11.3, 11.4.4, 11.4.5).
     #[cycle(expression)]
-    #[tactic(auto, using(crate::proofs::Putting::appended))]
+    #[tactic(auto, using(token_sheets::proofs::Putting::appended))]
     fn step(&self, page: &mut Sheet, a: &Expr, op: StepOp, allows_in: bool) -> Result<(), NoMemory>
         requires { Writes self.now.funcs.now self.now.depth (F.pre self.now.function) (F.post self.now.function) }
         ensures { OnOk result (page.new ≡ put_all (spec.stepped op allows_in (spec.printed (function_to self.now.depth self.now.funcs.now) a.now)) page.old) }
@@ -341,7 +340,7 @@ impl<F: Fn(Global, &[Func], &mut Sheet, usize, FuncNo, bool) -> Result<(), NoMem
         }
     }
 
-    #[tactic(auto, using(crate::proofs::Putting::appended))]
+    #[tactic(auto, using(token_sheets::proofs::Putting::appended))]
     fn input(&self, page: &mut Sheet, kind: Kind, text: &Text) -> Result<(), NoMemory>
         ensures { OnOk result (page.new ≡ put_all (spec.input kind text.now) page.old) }
     {
@@ -352,7 +351,7 @@ impl<F: Fn(Global, &[Func], &mut Sheet, usize, FuncNo, bool) -> Result<(), NoMem
     }
 
     #[cycle(expression)]
-    #[tactic(auto, using(crate::proofs::Putting::appended), unfolding(script_text::specs::Expressions::host_call))]
+    #[tactic(auto, using(token_sheets::proofs::Putting::appended), unfolding(script_text::specs::Expressions::host_call))]
     fn host_call(
         &self,
         page: &mut Sheet,

@@ -3,21 +3,18 @@
 ghost use Rattle.std.specs.Prelude.{◌≡◌, OnOk, IfOk, IsTrue};
 ghost use Rattle.js_grammar.specs.Readable.{is_readable};
 ghost use Rattle.js_printer.specs.GivesBack.{GivesBack};
-ghost use Rattle.js_printer.specs.Sheets.{put_all};
-ghost use Rattle.js_printer.specs.Sheets.{bytes_of};
+ghost use Rattle.token_sheets.specs.Sheets.{put_all};
 ghost use Rattle.script_text.specs.CodeLine as line;
 ghost use Rattle.script_text.specs.Printing as spec;
 
-use crate::bound::copies;
-use crate::code_line::CodeLine;
 use crate::expressions::Printer;
-use crate::page::Page;
-use crate::sheet::Sheet;
+use js_grammar::reading_laws;
 use js_tree::{Func, Script};
 use js_value::{Bytes, FuncNo, NoMemory, Text};
 use lexing_back::lexing_back;
 use reading_back::reading_back;
 use std::alloc::Global;
+use token_sheets::Sheet;
 
 /// A function by its number, with functions inside it to a depth.
 #[tactic(auto, unfolding(script_text::specs::Printing::function_to))]
@@ -61,7 +58,7 @@ fn script(alloc: Global, script: &Script, page: &mut Sheet) -> Result<(), NoMemo
 }
 
 /// Puts the tokens of a function's code.
-#[tactic(auto, using(crate::proofs::Putting::appended))]
+#[tactic(auto, using(token_sheets::proofs::Putting::appended))]
 fn code(alloc: Global, script: &Script, f: FuncNo, page: &mut Sheet) -> Result<(), NoMemory>
     ensures { OnOk result (page.new ≡ put_all (line.code_pieces script.now f) page.old) }
 {
@@ -70,18 +67,9 @@ fn code(alloc: Global, script: &Script, f: FuncNo, page: &mut Sheet) -> Result<(
     function(alloc, funcs, page, funcs.len(), f, false)
 }
 
-fn into_bytes(page: Sheet) -> Bytes
-    ensures { result ≡ bytes_of page }
-{
-    match page {
-        Sheet::Lines(page) => page.into_bytes(),
-        Sheet::Code(line) => line.into_bytes(),
-    }
-}
-
 /// The text of a script: its tokens with parentheses where a part is looser than its place takes, each statement on lines of
 /// its own. It ends with a line end, or is empty. Of a script that reading can give the text lexes and reads back to the script.
-#[tactic(auto, using(crate::proofs::Putting::on_lines), unfolding(script_text::specs::Printing::script_text))]
+#[tactic(auto, using(token_sheets::proofs::Putting::on_lines), unfolding(script_text::specs::Printing::script_text))]
 pub fn print(alloc: Global, script: &Script) -> Result<Bytes, NoMemory>
     ensures text { IfOk result (λ b. b ≡ spec.script_text script.now) }
     ensures back { IsTrue (is_readable script.now) → IfOk result (λ b. GivesBack b script.now) }
@@ -89,15 +77,16 @@ pub fn print(alloc: Global, script: &Script) -> Result<Bytes, NoMemory>
     // Laws of the definitions, with nothing to run.
     lexing_back();
     reading_back();
-    let mut page = Sheet::Lines(Page::new(alloc));
+    reading_laws();
+    let mut page = Sheet::lines(alloc);
     crate::functions::script(alloc, script, &mut page)?;
-    Ok(into_bytes(page))
+    Ok(page.into_bytes())
 }
 
 /// The code of a function on one line: its tokens without its own name, one space between them. The `k`-th of the given names,
 /// from 1, is `%k` wherever it is read or assigned to and the code around doesn't bind it. Empty but for the word `function`
 /// where the script has no such function.
-#[tactic(auto, using(crate::proofs::Putting::on_code), unfolding(script_text::specs::CodeLine::code_text))]
+#[tactic(auto, using(token_sheets::proofs::Putting::on_code), unfolding(script_text::specs::CodeLine::code_text))]
 pub fn code_text(
     alloc: Global,
     script: &Script,
@@ -106,8 +95,7 @@ pub fn code_text(
 ) -> Result<Bytes, NoMemory>
     ensures { IfOk result (λ b. b ≡ line.code_text script.now f names.now) }
 {
-    let names = copies(alloc, names)?;
-    let mut page = Sheet::Code(CodeLine::new(alloc, names));
+    let mut page = Sheet::code(alloc, names)?;
     code(alloc, script, f, &mut page)?;
-    Ok(into_bytes(page))
+    Ok(page.into_bytes())
 }

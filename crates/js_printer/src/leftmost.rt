@@ -5,9 +5,9 @@ ghost use Rattle.js_value.specs.declared.place.FuncNo.{FuncNo as Number};
 ghost use Rattle.script_text.specs.Pieces.{Piece};
 ghost use Rattle.script_text.specs.Expressions as spec;
 
-use crate::words::{binary_level, is_postfix, level, logic_level};
 use js_tree::{Expr, ExprForm};
 use js_value::Primitive;
+use token_sheets::{binary_level, is_postfix, level, logic_level};
 
 /// Whether an expression has a call outside brackets.
 #[cycle(calls)]

@@ -5,20 +5,20 @@ ghost use Rattle.std.specs.List.{flat_map};
 ghost use Rattle.js_value.specs.declared.place.FuncNo.{FuncNo as Number};
 ghost use Rattle.script_text.specs.Expressions.{expr, maybe_expr, name as name_pieces};
 ghost use Rattle.script_text.specs.Statements as spec;
-ghost use Rattle.js_printer.specs.Sheets.{put_all};
+ghost use Rattle.token_sheets.specs.Sheets.{put_all};
 ghost use Rattle.script_text.specs.Pieces.{Piece, word, separated, behind_commas};
 ghost use Rattle.script_text.specs.Printing.{bound_names, function_to};
 ghost use Rattle.js_printer.specs.Writes.{Writes};
 
 use crate::expressions::Printer;
 use crate::leftmost::starts;
-use crate::sheet::Sheet;
 use js_tree::{
     Case, Catch, Declarator, Expr, Finally, ForStart, ForTarget, Func, Name, Stmt, StmtForm,
 };
 use js_value::{FuncNo, NoMemory, Text};
 use script_text::Gap;
 use std::alloc::Global;
+use token_sheets::Sheet;
 
 /// Whether a statement is a block (12.1).
 fn is_block(s: &Stmt) -> bool
@@ -110,7 +110,7 @@ fn line_end_unless(page: &mut Sheet, holds: bool) -> Result<(), NoMemory>
 }
 
 /// `else` (12.5).
-#[tactic(auto, using(crate::proofs::Putting::appended), unfolding(script_text::specs::Statements::else_word))]
+#[tactic(auto, using(token_sheets::proofs::Putting::appended), unfolding(script_text::specs::Statements::else_word))]
 fn else_word(page: &mut Sheet, is_block: bool) -> Result<(), NoMemory>
     ensures { OnOk result (page.new ≡ put_all (spec.else_word is_block) page.old) }
 {
@@ -138,7 +138,7 @@ fn catch_head(alloc: Global, page: &mut Sheet, text: &Text) -> Result<(), NoMemo
 }
 
 /// The parameters of a function in their parentheses (13).
-#[tactic(auto, using(crate::proofs::Putting::appended))]
+#[tactic(auto, using(token_sheets::proofs::Putting::appended))]
 fn parameters(alloc: Global, page: &mut Sheet, all: &[Name]) -> Result<(), NoMemory>
     ensures { OnOk result (page.new ≡ put_all (spec.parameters all.now) page.old) }
 {
@@ -147,7 +147,7 @@ fn parameters(alloc: Global, page: &mut Sheet, all: &[Name]) -> Result<(), NoMem
     page.closing(b")")
 }
 
-#[tactic(auto, using(crate::proofs::Putting::appended))]
+#[tactic(auto, using(token_sheets::proofs::Putting::appended))]
 fn names(alloc: Global, page: &mut Sheet, all: &[Name]) -> Result<(), NoMemory>
     ensures { OnOk result (page.new ≡ put_all (separated spec.parameter all.now) page.old) }
 {
@@ -191,7 +191,7 @@ impl<F: Fn(Global, &[Func], &mut Sheet, usize, FuncNo, bool) -> Result<(), NoMem
     }
 
     /// A word with an expression in parentheses.
-    #[tactic(auto, using(crate::proofs::Putting::appended), unfolding(script_text::specs::Statements::head))]
+    #[tactic(auto, using(token_sheets::proofs::Putting::appended), unfolding(script_text::specs::Statements::head))]
     fn head(&self, page: &mut Sheet, first: &[u8], test: &Expr) -> Result<(), NoMemory>
         requires { Writes self.now.funcs.now self.now.depth (F.pre self.now.function) (F.post self.now.function) }
         ensures { OnOk result (page.new ≡ put_all (spec.head (function_to self.now.depth self.now.funcs.now) first.now test.now) page.old) }
@@ -218,7 +218,7 @@ impl<F: Fn(Global, &[Func], &mut Sheet, usize, FuncNo, bool) -> Result<(), NoMem
         self.expr(page, e, 2, allows_in)
     }
 
-    #[tactic(auto, using(crate::proofs::Putting::appended))]
+    #[tactic(auto, using(token_sheets::proofs::Putting::appended))]
     fn declarator(&self, page: &mut Sheet, d: &Declarator, allows_in: bool) -> Result<(), NoMemory>
         requires { Writes self.now.funcs.now self.now.depth (F.pre self.now.function) (F.post self.now.function) }
         ensures { OnOk result (page.new ≡ put_all (spec.declarator (function_to self.now.depth self.now.funcs.now) allows_in d.now) page.old) }
@@ -227,7 +227,7 @@ impl<F: Fn(Global, &[Func], &mut Sheet, usize, FuncNo, bool) -> Result<(), NoMem
         self.initialiser(page, &d.init, allows_in)
     }
 
-    #[tactic(auto, using(crate::proofs::Putting::appended))]
+    #[tactic(auto, using(token_sheets::proofs::Putting::appended))]
     fn declarator_list(
         &self,
         page: &mut Sheet,
@@ -248,7 +248,7 @@ impl<F: Fn(Global, &[Func], &mut Sheet, usize, FuncNo, bool) -> Result<(), NoMem
     }
 
     /// `var` with its declarators (12.2).
-    #[tactic(auto, using(crate::proofs::Putting::appended))]
+    #[tactic(auto, using(token_sheets::proofs::Putting::appended))]
     fn declarators(
         &self,
         page: &mut Sheet,
@@ -297,7 +297,7 @@ impl<F: Fn(Global, &[Func], &mut Sheet, usize, FuncNo, bool) -> Result<(), NoMem
     }
 
     /// `; test; step)`
-    #[tactic(auto, using(crate::proofs::Putting::appended), unfolding(script_text::specs::Statements::for_rest))]
+    #[tactic(auto, using(token_sheets::proofs::Putting::appended), unfolding(script_text::specs::Statements::for_rest))]
     fn for_rest(
         &self,
         page: &mut Sheet,
@@ -314,7 +314,7 @@ impl<F: Fn(Global, &[Func], &mut Sheet, usize, FuncNo, bool) -> Result<(), NoMem
         page.closing(b")")
     }
 
-    #[tactic(auto, using(crate::proofs::Putting::appended), unfolding(script_text::specs::Statements::for_head))]
+    #[tactic(auto, using(token_sheets::proofs::Putting::appended), unfolding(script_text::specs::Statements::for_head))]
     fn for_head(
         &self,
         page: &mut Sheet,
@@ -331,7 +331,7 @@ impl<F: Fn(Global, &[Func], &mut Sheet, usize, FuncNo, bool) -> Result<(), NoMem
     }
 
     /// `in object)`
-    #[tactic(auto, using(crate::proofs::Putting::appended), unfolding(script_text::specs::Statements::in_rest))]
+    #[tactic(auto, using(token_sheets::proofs::Putting::appended), unfolding(script_text::specs::Statements::in_rest))]
     fn in_rest(&self, page: &mut Sheet, object: &Expr) -> Result<(), NoMemory>
         requires { Writes self.now.funcs.now self.now.depth (F.pre self.now.function) (F.post self.now.function) }
         ensures { OnOk result (page.new ≡ put_all (spec.in_rest (function_to self.now.depth self.now.funcs.now) object.now) page.old) }
@@ -341,7 +341,7 @@ impl<F: Fn(Global, &[Func], &mut Sheet, usize, FuncNo, bool) -> Result<(), NoMem
         page.closing(b")")
     }
 
-    #[tactic(auto, using(crate::proofs::Putting::appended), unfolding(script_text::specs::Statements::for_in_head))]
+    #[tactic(auto, using(token_sheets::proofs::Putting::appended), unfolding(script_text::specs::Statements::for_in_head))]
     fn for_in_head(&self, page: &mut Sheet, to: &ForTarget, object: &Expr) -> Result<(), NoMemory>
         requires { Writes self.now.funcs.now self.now.depth (F.pre self.now.function) (F.post self.now.function) }
         ensures { OnOk result (page.new ≡ put_all (spec.for_in_head (function_to self.now.depth self.now.funcs.now) to.now object.now) page.old) }
@@ -352,7 +352,7 @@ impl<F: Fn(Global, &[Func], &mut Sheet, usize, FuncNo, bool) -> Result<(), NoMem
     }
 
     /// What stands behind the body of a `do` (12.6.1).
-    #[tactic(auto, using(crate::proofs::Putting::appended), unfolding(script_text::specs::Statements::end_of_do))]
+    #[tactic(auto, using(token_sheets::proofs::Putting::appended), unfolding(script_text::specs::Statements::end_of_do))]
     fn end_of_do(&self, page: &mut Sheet, ends_in_brace: bool, test: &Expr) -> Result<(), NoMemory>
         requires { Writes self.now.funcs.now self.now.depth (F.pre self.now.function) (F.post self.now.function) }
         ensures { OnOk result (page.new ≡ put_all (spec.end_of_do (function_to self.now.depth self.now.funcs.now) ends_in_brace test.now) page.old) }
@@ -375,7 +375,7 @@ impl<F: Fn(Global, &[Func], &mut Sheet, usize, FuncNo, bool) -> Result<(), NoMem
     }
 
     /// `case test:` and `default:` (12.11).
-    #[tactic(auto, using(crate::proofs::Putting::appended))]
+    #[tactic(auto, using(token_sheets::proofs::Putting::appended))]
     fn clause_start(&self, page: &mut Sheet, test: &Option<Expr>) -> Result<(), NoMemory>
         requires { Writes self.now.funcs.now self.now.depth (F.pre self.now.function) (F.post self.now.function) }
         ensures { OnOk result (page.new ≡ put_all (spec.clause_start (spec.label (function_to self.now.depth self.now.funcs.now) test.now)) page.old) }
@@ -388,7 +388,7 @@ impl<F: Fn(Global, &[Func], &mut Sheet, usize, FuncNo, bool) -> Result<(), NoMem
 
     /// A statement without the end of its last line.
     #[cycle(statement)]
-    #[tactic(auto, using(crate::proofs::Putting::appended))]
+    #[tactic(auto, using(token_sheets::proofs::Putting::appended))]
     fn statement(&self, page: &mut Sheet, s: &Stmt) -> Result<(), NoMemory>
         requires { Writes self.now.funcs.now self.now.depth (F.pre self.now.function) (F.post self.now.function) }
         ensures { OnOk result (page.new ≡ put_all (spec.shown (function_to self.now.depth self.now.funcs.now) s.now).pieces page.old) }
@@ -397,7 +397,7 @@ impl<F: Fn(Global, &[Func], &mut Sheet, usize, FuncNo, bool) -> Result<(), NoMem
     }
 
     #[cycle(statement)]
-    #[tactic(auto, using(crate::proofs::Putting::appended))]
+    #[tactic(auto, using(token_sheets::proofs::Putting::appended))]
     fn statement_form(&self, page: &mut Sheet, form: &StmtForm) -> Result<(), NoMemory>
         requires { Writes self.now.funcs.now self.now.depth (F.pre self.now.function) (F.post self.now.function) }
         ensures { OnOk result (page.new ≡ put_all (spec.shown_form (function_to self.now.depth self.now.funcs.now) form.now).pieces page.old) }
@@ -484,7 +484,7 @@ impl<F: Fn(Global, &[Func], &mut Sheet, usize, FuncNo, bool) -> Result<(), NoMem
 
     /// `if (test) a`
     #[cycle(statement)]
-    #[tactic(auto, using(crate::proofs::Putting::appended))]
+    #[tactic(auto, using(token_sheets::proofs::Putting::appended))]
     fn first_part(&self, page: &mut Sheet, a: &Stmt, test: &Expr) -> Result<(), NoMemory>
         requires { Writes self.now.funcs.now self.now.depth (F.pre self.now.function) (F.post self.now.function) }
         ensures { OnOk result (page.new ≡ put_all (spec.shown (function_to self.now.depth self.now.funcs.now) a.now).pieces (put_all (spec.head (function_to self.now.depth self.now.funcs.now) (codes "if") test.now) page.old)) }
@@ -495,7 +495,7 @@ impl<F: Fn(Global, &[Func], &mut Sheet, usize, FuncNo, bool) -> Result<(), NoMem
 
     /// `else b`
     #[cycle(statement)]
-    #[tactic(auto, using(crate::proofs::Putting::appended))]
+    #[tactic(auto, using(token_sheets::proofs::Putting::appended))]
     fn other_part(&self, page: &mut Sheet, b: &Stmt, is_block: bool) -> Result<(), NoMemory>
         requires { Writes self.now.funcs.now self.now.depth (F.pre self.now.function) (F.post self.now.function) }
         ensures { OnOk result (page.new ≡ put_all (spec.shown (function_to self.now.depth self.now.funcs.now) b.now).pieces (put_all (spec.else_word is_block) page.old)) }
@@ -506,7 +506,7 @@ impl<F: Fn(Global, &[Func], &mut Sheet, usize, FuncNo, bool) -> Result<(), NoMem
 
     /// `do body`
     #[cycle(statement)]
-    #[tactic(auto, using(crate::proofs::Putting::appended))]
+    #[tactic(auto, using(token_sheets::proofs::Putting::appended))]
     fn do_part(&self, page: &mut Sheet, body: &Stmt) -> Result<(), NoMemory>
         requires { Writes self.now.funcs.now self.now.depth (F.pre self.now.function) (F.post self.now.function) }
         ensures { OnOk result (page.new ≡ put_all (spec.shown (function_to self.now.depth self.now.funcs.now) body.now).pieces (put_all (word (codes "do")) page.old)) }
@@ -517,7 +517,7 @@ impl<F: Fn(Global, &[Func], &mut Sheet, usize, FuncNo, bool) -> Result<(), NoMem
 
     /// `try` with its block (12.14).
     #[cycle(statement)]
-    #[tactic(auto, using(crate::proofs::Putting::appended))]
+    #[tactic(auto, using(token_sheets::proofs::Putting::appended))]
     fn try_block(&self, page: &mut Sheet, body: &[Stmt]) -> Result<(), NoMemory>
         requires { Writes self.now.funcs.now self.now.depth (F.pre self.now.function) (F.post self.now.function) }
         ensures { OnOk result (page.new ≡ put_all (spec.block (spec.shown (function_to self.now.depth self.now.funcs.now)) body.now) (put_all (word (codes "try")) page.old)) }
@@ -527,7 +527,7 @@ impl<F: Fn(Global, &[Func], &mut Sheet, usize, FuncNo, bool) -> Result<(), NoMem
     }
 
     #[cycle(statement)]
-    #[tactic(auto, using(crate::proofs::Putting::appended))]
+    #[tactic(auto, using(token_sheets::proofs::Putting::appended))]
     fn handler(&self, page: &mut Sheet, handler: &Catch) -> Result<(), NoMemory>
         requires { Writes self.now.funcs.now self.now.depth (F.pre self.now.function) (F.post self.now.function) }
         ensures { OnOk result (page.new ≡ put_all (spec.shown_catch (function_to self.now.depth self.now.funcs.now) handler.now) page.old) }
@@ -540,7 +540,7 @@ impl<F: Fn(Global, &[Func], &mut Sheet, usize, FuncNo, bool) -> Result<(), NoMem
     }
 
     #[cycle(statement)]
-    #[tactic(auto, using(crate::proofs::Putting::appended))]
+    #[tactic(auto, using(token_sheets::proofs::Putting::appended))]
     fn last(&self, page: &mut Sheet, last: &Finally) -> Result<(), NoMemory>
         requires { Writes self.now.funcs.now self.now.depth (F.pre self.now.function) (F.post self.now.function) }
         ensures { OnOk result (page.new ≡ put_all (spec.shown_finally (function_to self.now.depth self.now.funcs.now) last.now) page.old) }
@@ -551,7 +551,7 @@ impl<F: Fn(Global, &[Func], &mut Sheet, usize, FuncNo, bool) -> Result<(), NoMem
 
     /// A block (12.1).
     #[cycle(statement)]
-    #[tactic(auto, using(crate::proofs::Putting::appended))]
+    #[tactic(auto, using(token_sheets::proofs::Putting::appended))]
     fn block(&self, page: &mut Sheet, body: &[Stmt]) -> Result<(), NoMemory>
         requires { Writes self.now.funcs.now self.now.depth (F.pre self.now.function) (F.post self.now.function) }
         ensures { OnOk result (page.new ≡ put_all (spec.block (spec.shown (function_to self.now.depth self.now.funcs.now)) body.now) page.old) }
@@ -566,7 +566,7 @@ impl<F: Fn(Global, &[Func], &mut Sheet, usize, FuncNo, bool) -> Result<(), NoMem
 
     /// Statements, each of which ends its last line.
     #[cycle(statement)]
-    #[tactic(auto, using(crate::proofs::Putting::appended))]
+    #[tactic(auto, using(token_sheets::proofs::Putting::appended))]
     pub fn lines(&self, page: &mut Sheet, body: &[Stmt]) -> Result<(), NoMemory>
         requires { Writes self.now.funcs.now self.now.depth (F.pre self.now.function) (F.post self.now.function) }
         ensures { OnOk result (page.new ≡ put_all (spec.lines (spec.shown (function_to self.now.depth self.now.funcs.now)) body.now) page.old) }
@@ -580,7 +580,7 @@ impl<F: Fn(Global, &[Func], &mut Sheet, usize, FuncNo, bool) -> Result<(), NoMem
 
     /// The clauses of a `switch` in their braces (12.11).
     #[cycle(statement)]
-    #[tactic(auto, using(crate::proofs::Putting::appended))]
+    #[tactic(auto, using(token_sheets::proofs::Putting::appended))]
     fn clauses(&self, page: &mut Sheet, all: &[Case]) -> Result<(), NoMemory>
         requires { Writes self.now.funcs.now self.now.depth (F.pre self.now.function) (F.post self.now.function) }
         ensures { OnOk result (page.new ≡ put_all (spec.clauses (spec.shown_case (function_to self.now.depth self.now.funcs.now)) all.now) page.old) }
@@ -594,7 +594,7 @@ impl<F: Fn(Global, &[Func], &mut Sheet, usize, FuncNo, bool) -> Result<(), NoMem
     }
 
     #[cycle(statement)]
-    #[tactic(auto, using(crate::proofs::Putting::appended))]
+    #[tactic(auto, using(token_sheets::proofs::Putting::appended))]
     fn clause_list(&self, page: &mut Sheet, all: &[Case]) -> Result<(), NoMemory>
         requires { Writes self.now.funcs.now self.now.depth (F.pre self.now.function) (F.post self.now.function) }
         ensures { OnOk result (page.new ≡ put_all (flat_map (spec.shown_case (function_to self.now.depth self.now.funcs.now)) all.now) page.old) }
@@ -606,7 +606,7 @@ impl<F: Fn(Global, &[Func], &mut Sheet, usize, FuncNo, bool) -> Result<(), NoMem
     }
 
     #[cycle(statement)]
-    #[tactic(auto, using(crate::proofs::Putting::appended))]
+    #[tactic(auto, using(token_sheets::proofs::Putting::appended))]
     fn clause(&self, page: &mut Sheet, c: &Case) -> Result<(), NoMemory>
         requires { Writes self.now.funcs.now self.now.depth (F.pre self.now.function) (F.post self.now.function) }
         ensures { OnOk result (page.new ≡ put_all (spec.shown_case (function_to self.now.depth self.now.funcs.now) c.now) page.old) }
@@ -623,7 +623,7 @@ impl<F: Fn(Global, &[Func], &mut Sheet, usize, FuncNo, bool) -> Result<(), NoMem
     F,
 > {
     /// The statements of code, behind its directive.
-    #[tactic(auto, using(crate::proofs::Putting::appended))]
+    #[tactic(auto, using(token_sheets::proofs::Putting::appended))]
     pub fn code(&self, page: &mut Sheet, is_directive: bool, body: &[Stmt]) -> Result<(), NoMemory>
         requires { Writes self.now.funcs.now self.now.depth (F.pre self.now.function) (F.post self.now.function) }
         ensures { OnOk result (page.new ≡ put_all (spec.code (function_to self.now.depth self.now.funcs.now) is_directive body.now) page.old) }
@@ -633,7 +633,7 @@ impl<F: Fn(Global, &[Func], &mut Sheet, usize, FuncNo, bool) -> Result<(), NoMem
     }
 
     /// The body of a function (13).
-    #[tactic(auto, using(crate::proofs::Putting::appended))]
+    #[tactic(auto, using(token_sheets::proofs::Putting::appended))]
     fn body(&self, page: &mut Sheet, f: &Func) -> Result<(), NoMemory>
         requires { Writes self.now.funcs.now self.now.depth (F.pre self.now.function) (F.post self.now.function) }
         ensures { OnOk result (page.new ≡ put_all (spec.body (function_to self.now.depth self.now.funcs.now) f.now) page.old) }
@@ -648,7 +648,7 @@ impl<F: Fn(Global, &[Func], &mut Sheet, usize, FuncNo, bool) -> Result<(), NoMem
     }
 
     /// A function behind the word that begins it, with or without its name.
-    #[tactic(auto, using(crate::proofs::Putting::appended))]
+    #[tactic(auto, using(token_sheets::proofs::Putting::appended))]
     pub fn func(&self, page: &mut Sheet, f: &Func, named: bool) -> Result<(), NoMemory>
         requires { Writes self.now.funcs.now self.now.depth (F.pre self.now.function) (F.post self.now.function) }
         ensures { OnOk result (page.new ≡ put_all (spec.func (function_to self.now.depth self.now.funcs.now) (bound_names named self.now.funcs.now f.now) named f.now) page.old) }

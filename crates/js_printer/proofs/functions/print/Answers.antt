@@ -1,11 +1,10 @@
-use Rattle.std.proofs.Common.{◌≡◌, ◌∙◌, ap, sym, subst, List, ℕ}
+use Rattle.std.proofs.Common.{◌≡◌, ◌∙◌, ap, sym, subst}
 use Rattle.script_text.specs.Pieces.{blank}
 use Rattle.script_text.specs.Printing.{script_pieces, script_text}
 use Rattle.js_printer.specs.GivesBack.{GivesBack}
-use Rattle.js_printer.specs.Sheets.{put_all, bytes_of}
-use Rattle.js_printer.specs.declared.sheet.Sheet.TheVariants.{Lines}
+use Rattle.token_sheets.specs.Sheets.{put_all, bytes_of}
 use Rattle.js_printer.proofs.Back.{gives_back}
-use Rattle.js_printer.proofs.Putting.{put_all-Lines}
+use Rattle.token_sheets.proofs.Putting.{put_all-Lines}
 use Rattle.js_printer.proofs.functions.print.Goals as goal
 
 pub returns-clause-back : goal.returns-clause-back
@@ -14,5 +13,5 @@ returns-clause-back c =
     let s = c.args.script.now in
     let pieces = script_pieces s in
     let is : c.into_bytes.result ≡ script_text s =
-    c.into_bytes.ensures ∙ ap bytes_of (c.in_ok-script.ensures ∙ ap (λ p. put_all pieces (Lines p)) c.new.ensures ∙ put_all-Lines pieces blank) in
-    λ readable. subst (λ b. GivesBack b s) (sym is) (gives_back c.lexing_back.ensures c.reading_back.ensures s readable)
+    c.into_bytes.ensures ∙ ap bytes_of (c.in_ok-script.ensures ∙ ap (put_all pieces) c.lines-page.ensures ∙ put_all-Lines pieces blank) in
+    λ readable. subst (λ b. GivesBack b s) (sym is) (gives_back c.lexing_back.ensures c.reading_back.ensures c.reading_laws.ensures.limits s readable)

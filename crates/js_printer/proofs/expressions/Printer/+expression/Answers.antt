@@ -1,14 +1,15 @@
 use Rattle.std.proofs.Common.{◌≡◌, ◌-◌, take, drop, length, refl, ap, sym, ◌∙◌}
 use Rattle.std.specs.Prelude.{codes}
 use Rattle.script_text.specs.Pieces.{Piece, closing, behind_commas, separated}
-use Rattle.js_printer.specs.Sheets.{put_all}
+use Rattle.token_sheets.specs.Sheets.{put_all}
 use Rattle.script_text.specs.Expressions.{argument, printed_field, element, printed, last_comma, ends_in_elision}
 use Rattle.std.specs.Option.{option_map}
 use Rattle.std.specs.Prelude.{List, Option}
 use Rattle.js_tree.specs.declared.expression.Expr.{Expr}
 use Rattle.js_printer.proofs.expressions.Printer.+expression.Goals.{elements-in_default, elements-in-len1-up+else-loop-e-test, elements-in-Some+in_ok-expr, elements-in_default-first, elements-in-Some-e+in_ok-expr-2, elements-in_default-e}
 use Rattle.script_text.specs.Printing.{function_to}
-use Rattle.js_printer.proofs.Putting.{on_ok_along, commas-push, separated-whole, separated-none, put_all-append}
+use Rattle.js_printer.proofs.Putting.{on_ok_along, commas-push, separated-whole, separated-none}
+use Rattle.token_sheets.proofs.Putting.{put_all-append}
 use Rattle.js_printer.proofs.Forms.{put-This, put-Name, put-Literal, put-ArrayLit, put-ObjectLit, put-Func, put-Member, put-Index, put-Call, put-New, put-Unary, put-Binary, put-Logic, put-Conditional, put-Assign, put-Step, put-Comma, put-Input, put-HostCall}
 use Rattle.js_printer.proofs.expressions.Printer.+expression.Goals as goal
 

@@ -1,7 +1,7 @@
 use Rattle.std.proofs.Common.{◌≡◌, take}
 use Rattle.std.specs.Option.{option_map}
 use Rattle.script_text.specs.Pieces.{behind_commas}
-use Rattle.js_printer.specs.Sheets.{put_all}
+use Rattle.token_sheets.specs.Sheets.{put_all}
 use Rattle.script_text.specs.Printing.{function_to}
 use Rattle.script_text.specs.Expressions.{printed, printed_field, argument, element}
 use Rattle.js_printer.proofs.expressions.Printer.+expression.Given as goal

@@ -2,7 +2,7 @@ use Rattle.std.proofs.Common.{refl, ap, sym, ◌∙◌}
 use Rattle.std.specs.Prelude.{None, Some}
 use Rattle.js_tree.specs.declared.statement.StmtForm.TheVariants as s
 use Rattle.script_text.specs.Pieces.{LineEnd}
-use Rattle.js_printer.specs.Sheets.{put_all, put}
+use Rattle.token_sheets.specs.Sheets.{put_all, put}
 use Rattle.script_text.specs.Printing.{function_to}
 use Rattle.script_text.specs.Statements.{shown, shown_case, shown_form, lines}
 use Rattle.std.specs.List.{flat_map}

@@ -1,6 +1,6 @@
 use Rattle.std.proofs.Common.{◌≡◌, take}
 use Rattle.std.specs.List.{flat_map}
-use Rattle.js_printer.specs.Sheets.{put_all}
+use Rattle.token_sheets.specs.Sheets.{put_all}
 use Rattle.script_text.specs.Printing.{function_to}
 use Rattle.script_text.specs.Statements.{lines, shown, shown_case}
 use Rattle.js_printer.proofs.expressions.Printer.+statement.Given as goal

@@ -1,7 +1,7 @@
 use Rattle.std.proofs.Common.{ap, ◌∙◌, sym, take, drop, length, ◌-◌}
 use Rattle.std.specs.Prelude.{codes}
 use Rattle.script_text.specs.Pieces.{behind_commas, closing}
-use Rattle.js_printer.specs.Sheets.{put_all}
+use Rattle.token_sheets.specs.Sheets.{put_all}
 use Rattle.script_text.specs.Printing.{function_to}
 use Rattle.script_text.specs.Statements.{declarator}
 use Rattle.js_printer.proofs.Putting.{separated-whole, commas-push}

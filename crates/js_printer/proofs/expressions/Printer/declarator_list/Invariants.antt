@@ -1,6 +1,6 @@
 use Rattle.std.proofs.Common.{◌≡◌, take}
 use Rattle.script_text.specs.Pieces.{behind_commas}
-use Rattle.js_printer.specs.Sheets.{put_all}
+use Rattle.token_sheets.specs.Sheets.{put_all}
 use Rattle.script_text.specs.Printing.{function_to}
 use Rattle.script_text.specs.Statements.{declarator}
 use Rattle.js_printer.proofs.expressions.Printer.declarator_list.Given as goal

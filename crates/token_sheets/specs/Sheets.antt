@@ -1,7 +1,7 @@
 -- What tokens are put on: the lines of a text, or the line of a function's code.
 use Rattle.std.specs.Prelude.{ℕ, List, [], ◌∷◌}
-use Rattle.js_printer.specs.declared.sheet.Sheet.{Sheet}
-use Rattle.js_printer.specs.declared.sheet.Sheet.TheVariants.{Lines, Code}
+use Rattle.token_sheets.specs.declared.sheet.Sheet.{Sheet}
+use Rattle.token_sheets.specs.declared.sheet.Sheet.TheVariants.{Lines, Code}
 use Rattle.script_text.specs.Pieces as pieces
 use Rattle.script_text.specs.Pieces.{Piece}
 use Rattle.script_text.specs.CodeLine.{add}

@@ -1,5 +1,5 @@
 use Rattle.std.proofs.Common.{◌≡◌, ◌++◌, take}
-use Rattle.js_printer.proofs.bound.push_all.Given as goal
+use Rattle.token_sheets.proofs.bound.push_all.Given as goal
 
 abbrev pub invariant-loop-name : goal.invariant-loop-name
 invariant-loop-name l = l.names ≡ l.fn.names ++ take l.name-index l.more

@@ -1,16 +1,18 @@
 //! What tokens are put on.
 
-ghost use Rattle.std.specs.Prelude.{◌≡◌, ◌∷◌, [], OnOk};
-ghost use Rattle.js_printer.specs.Sheets.{put, put_all};
+ghost use Rattle.std.specs.Prelude.{◌≡◌, ◌∷◌, [], OnOk, IfOk};
+ghost use Rattle.script_text.specs.CodeLine.{empty_line};
+ghost use Rattle.token_sheets.specs.Sheets.{bytes_of, put, put_all};
+ghost use Rattle.token_sheets.specs.declared.sheet.Sheet.TheVariants.{Lines as AsLines, Code as AsCode};
 ghost use Rattle.script_text.specs.Pieces as spec;
 ghost use Rattle.script_text.specs.Pieces.{Token, LineEnd, Open, Close, Reference, Named, Quoted, Number, Bind, Release};
 ghost use Rattle.script_text.specs.Printing.{bound_names};
 
-use crate::bound::bound_names;
+use crate::bound::{bound_names, copies};
 use crate::code_line::CodeLine;
 use crate::page::Page;
 use js_tree::Func;
-use js_value::{NoMemory, Seq, Text, push_number};
+use js_value::{Bytes, NoMemory, Seq, Text, push_number};
 use script_text::Gap;
 use std::alloc::Global;
 
@@ -24,6 +26,31 @@ pub enum Sheet {
 }
 
 impl Sheet {
+    /// A text without tokens.
+    pub fn lines(alloc: Global) -> Sheet
+        ensures { result ≡ AsLines spec.blank }
+    {
+        Sheet::Lines(Page::new(alloc))
+    }
+
+    /// The line of a function's code without tokens, on which these names are to be replaced.
+    pub fn code(alloc: Global, names: &[Text]) -> Result<Sheet, NoMemory>
+        ensures { IfOk result (λ sheet. sheet ≡ AsCode (empty_line names.now)) }
+    {
+        let names = copies(alloc, names)?;
+        Ok(Sheet::Code(CodeLine::new(alloc, names)))
+    }
+
+    /// What was put, as bytes.
+    pub fn into_bytes(self) -> Bytes
+        ensures { result ≡ bytes_of self }
+    {
+        match self {
+            Sheet::Lines(page) => page.into_bytes(),
+            Sheet::Code(line) => line.into_bytes(),
+        }
+    }
+
     /// Puts a token, whether no space is to stand before it in a text, and what may stand behind it.
     #[tactic(auto, unfolding(crate::specs::Sheets::put, script_text::specs::CodeLine::add))]
     pub fn token(&mut self, text: &[u8], is_tight: bool, behind: Gap) -> Result<(), NoMemory>
@@ -35,36 +62,42 @@ impl Sheet {
         }
     }
 
+    /// A token with spaces around it.
     pub fn word(&mut self, text: &[u8]) -> Result<(), NoMemory>
         ensures { OnOk result (self.new ≡ put_all (spec.word text.now) self.old) }
     {
         self.token(text, false, Gap::Loose)
     }
 
+    /// A token without a space before it.
     pub fn closing(&mut self, text: &[u8]) -> Result<(), NoMemory>
         ensures { OnOk result (self.new ≡ put_all (spec.closing text.now) self.old) }
     {
         self.token(text, true, Gap::Loose)
     }
 
+    /// A token without a space behind it.
     pub fn opening(&mut self, text: &[u8]) -> Result<(), NoMemory>
         ensures { OnOk result (self.new ≡ put_all (spec.opening text.now) self.old) }
     {
         self.token(text, false, Gap::Tight)
     }
 
+    /// A token without spaces around it.
     pub fn inner(&mut self, text: &[u8]) -> Result<(), NoMemory>
         ensures { OnOk result (self.new ≡ put_all (spec.inner text.now) self.old) }
     {
         self.token(text, true, Gap::Tight)
     }
 
+    /// A sign before its operand: a space behind it only where two signs would meet.
     pub fn prefix(&mut self, text: &[u8]) -> Result<(), NoMemory>
         ensures { OnOk result (self.new ≡ put_all (spec.prefix text.now) self.old) }
     {
         self.token(text, false, Gap::Sign)
     }
 
+    /// Ends a line of a text.
     #[tactic(auto, unfolding(crate::specs::Sheets::put, script_text::specs::CodeLine::add))]
     pub fn end_line(&mut self) -> Result<(), NoMemory>
         ensures { OnOk result (self.new ≡ put self.old LineEnd) }

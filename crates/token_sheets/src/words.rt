@@ -4,7 +4,7 @@ ghost use Rattle.std.specs.Prelude.{◌≡◌, ◌++◌, ◌∷◌, [], OnOk, tr
 ghost use Rattle.js_tree.specs.declared.expression.ExprForm.{out-ExprForm};
 ghost use Rattle.js_tree.specs.Lexing as lexing;
 ghost use Rattle.script_text.specs.Expressions as spec;
-ghost use Rattle.js_printer.specs.Sheets.{put_all};
+ghost use Rattle.token_sheets.specs.Sheets.{put_all};
 
 use crate::sheet::Sheet;
 use js_tree::{ExprForm, LogicOp, StepOp};
