@@ -9,9 +9,9 @@ use Rattle.js_grammar.specs.Reading.{grammar}
 use Rattle.js_grammar.proofs.Alike.{Setting, Alike, looks}
 use Rattle.js_grammar.proofs.AlikeParts.{ends_too, sees_too}
 use Rattle.js_grammar.proofs.Unrolled as U
-use Rattle.js_parse.specs.declared.reader.Closer.{Closer}
-use Rattle.js_parse.specs.declared.reader.Closer.TheVariants as closer
-use Rattle.js_parse.specs.Reader.{closed_by}
+use Rattle.token_reader.specs.declared.statements.Closer.{Closer}
+use Rattle.token_reader.specs.declared.statements.Closer.TheVariants as closer
+use Rattle.token_reader.specs.Reader.{closed_by}
 
 closed_alike : (c : Closer) (w : Setting) → Alike w false 0 (closed_by c) (closed_by c)
 closed_alike closer.End w = ends_too w

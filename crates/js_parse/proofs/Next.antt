@@ -3,7 +3,7 @@ use Rattle.std.proofs.Common.{◌≡◌, Bool, true, false, refl, ◌∙◌}
 use Rattle.std.specs.Prelude.{Option, Some, None, Result, Ok, Err, is_some}
 use Rattle.js_tree.specs.declared.token.TokenForm.{TokenForm}
 use Rattle.js_grammar.specs.Rest.{Rest, Reading, next, of_first, passed}
-use Rattle.js_parse.specs.Reader.{taken, IsTaken}
+use Rattle.token_reader.specs.Reader.{taken, IsTaken}
 
 module _ {A B : Type 0} (want : TokenForm → Option A) (f : A → Reading B) (m : Reading B) where
   pub next_some : (s : Rest) (a : A) → of_first want s.tokens ≡ Some a → next want f m s ≡ f a (passed s)

@@ -26,9 +26,10 @@ use Rattle.js_parse.specs.declared.frames.First.{First}
 use Rattle.js_parse.specs.declared.frames.First.TheVariants as first
 use Rattle.js_parse.specs.declared.frames.Reached.{Reached}
 use Rattle.js_parse.specs.declared.frames.Reached.TheVariants as reached
-use Rattle.js_parse.specs.declared.operators.Level.{Level}
-use Rattle.js_parse.specs.declared.operators.Level.TheVariants as level
-use Rattle.js_parse.specs.Levels.{number, form_of}
+use Rattle.token_marks.specs.declared.operators.Level.{Level}
+use Rattle.token_marks.specs.declared.operators.Level.TheVariants as level
+use Rattle.token_marks.specs.Levels.{number, form_of}
+use Rattle.token_reader.specs.Parts.{stepped}
 
 -- ---- what a frame waits for
 
@@ -58,12 +59,6 @@ tighter allows_in n = rest (E.unary grammar) (drop n (levels allows_in))
 -- the right side of an operator was read
 abbrev pub join : Open → Expr → Reading Expr
 join o right = finish o.left.at (form_of o.op o.left right)
-
--- 11.3
-abbrev pub stepped : Expr → Reading Expr
-stepped x = do
-  later ← on_later_line
-  if later then give x else next Operators.postfix_operator (λ op. E.if_target x (finish x.at (e.Step op x))) (give x)
 
 -- 11.12
 abbrev pub chosen : Bool → Expr → Reading Expr

@@ -3,22 +3,15 @@ use Rattle.std.specs.Prelude.{◌≡◌, ◌≢◌, ◌||◌, if◌then◌else�
 use Rattle.js_tree.specs.declared.expression.Expr.{Expr}
 use Rattle.js_tree.specs.declared.refusal.ReadRefused.{ReadRefused}
 use Rattle.js_tree.specs.declared.refusal.ReadRefused.TheVariants.{NoMemory}
-use Rattle.js_tree.specs.declared.statement.Name.{Name}
 use Rattle.js_tree.specs.declared.statement.Stmt.{Stmt}
 use Rattle.js_tree.specs.declared.statement.StmtForm.{StmtForm}
 use Rattle.js_tree.specs.declared.statement.StmtForm.TheVariants as s
-use Rattle.js_grammar.specs.Rest.{Rest, Reading, ◌>>=◌, ◌>>◌, give, sees, expect, part}
-use Rattle.js_grammar.specs.Functions.{declared_name}
+use Rattle.js_grammar.specs.Rest.{Rest, Reading, ◌>>=◌, ◌>>◌, give, sees}
 use Rattle.js_grammar.specs.Marks
 use Rattle.js_grammar.specs.Primary.{expression}
 use Rattle.js_grammar.specs.Reading.{grammar}
-use Rattle.js_grammar.specs.Statements as S
-use Rattle.js_parse.specs.declared.statements.Beginning.{Beginning}
-use Rattle.js_parse.specs.declared.statements.Beginning.TheVariants as first
 use Rattle.js_parse.specs.declared.statements.Header.{Header}
 use Rattle.js_parse.specs.declared.statements.Header.TheVariants as header
-use Rattle.js_parse.specs.declared.statements.Jump.{Jump}
-use Rattle.js_parse.specs.declared.statements.Jump.TheVariants as jump
 
 abbrev pub whole_of : Header → Stmt → StmtForm
 whole_of (header.Parts from test step) = λ body. s.For from test step body
@@ -28,37 +21,9 @@ abbrev pub IsHeader : Reading (Stmt → StmtForm) → Rest → Rest → Result H
 IsHeader m s t (Ok h) = m s ≡ Ok (whole_of h, t)
 IsHeader m s t (Err e) = e ≢ NoMemory → m s ≡ Err e
 
-abbrev pub form_of : Jump → StmtForm
-form_of jump.Continue = s.Continue
-form_of jump.Break = s.Break
-
-abbrev pub named : Beginning → S.Beginning
-named first.Block = S.Block
-named first.Empty = S.Empty
-named first.Var = S.Var
-named first.If = S.If
-named first.Do = S.Do
-named first.While = S.While
-named first.For = S.For
-named first.Continue = S.Continue
-named first.Break = S.Break
-named first.Return = S.Return
-named first.With = S.With
-named first.Switch = S.Switch
-named first.Throw = S.Throw
-named first.Try = S.Try
-named first.Debugger = S.Debugger
-named first.Function = S.Function
-
 -- what `return` gives, where its statement isn't ended by a line end
 abbrev pub returned : Reading (Option Expr)
 returned = do
   semicolon ← sees Marks.semicolon
   brace ← sees Marks.right_brace
   if semicolon || brace then give None else (expression grammar >>= λ x. give (Some x))
-
-abbrev pub catch_name : Reading Name
-catch_name = part (do
-  name ← declared_name
-  expect Marks.right_parenthesis
-  give name)

@@ -1,5 +1,2 @@
-pub mod Reader
-pub mod Within
-pub mod Levels
 pub mod Headers
 pub mod Frames

@@ -3,12 +3,12 @@
 ghost use Rattle.std.specs.Prelude.{◌≡◌, ◌∷◌, [], OnOk, OnErr, MatchOption};
 ghost use Rattle.js_parse.specs.Frames.{callee_of, level_of, of_first};
 
-use crate::operators::{Level, Operator};
 use js_tree::{Expr, Fields};
 use js_value::{NoMemory, Place, Text};
 use smallvec::SmallVec;
 use std::alloc::Global;
 use std::marker::Model;
+use token_marks::{Level, Operator};
 
 /// An operator with its left side, whose right side is being read.
 #[derive(Debug, Drop)]

@@ -1,30 +1,22 @@
-//! The reader of tokens: each production of the grammar is a function.
+//! The parser: each production of the grammar is a function.
 #![tactic(auto)]
 
 ghost use Rattle.js_grammar.specs.Reading as spec;
 ghost use Rattle.js_tree.specs.Refusals.{Gives};
 
-mod ends;
 mod expressions;
 mod frames;
 mod functions;
-mod heights;
-mod operators;
+mod parser;
 mod primary;
-mod reader;
-#[cfg(test)]
-mod size_tests;
 mod stack;
 mod statements;
-#[cfg(test)]
-mod tests;
-mod tokens;
-mod words;
 
-use crate::reader::{Closer, Reader};
+use crate::parser::Parser;
 use js_tree::{ReadRefused, Script, Tokens};
 use js_value::Seq;
 use std::alloc::Global;
+use token_reader::{Closer, Reader};
 
 /// The script of tokens before its early checks, or the first fault with its place: what can't go on, what isn't
 /// supported, or a part that is nested deeper than the limit. `NoMemory` comes only where there is no memory.
@@ -35,19 +27,13 @@ use std::alloc::Global;
 pub fn parse(alloc: Global, tokens: &Tokens, limit: u32) -> Result<Script, ReadRefused>
     ensures { Gives (spec.read tokens.now limit) result }
 {
-    let mut reader = Reader {
-        alloc,
-        rest: tokens.items.as_slice(),
-        end: tokens.end,
-        last: None,
-        limit,
-        opened: 0,
-        functions: Vec::new(alloc),
+    let mut parser = Parser {
+        reader: Reader::new(alloc, tokens, limit),
     };
-    let body = reader.elements(Closer::End)?;
+    let body = parser.elements(Closer::End)?;
     Ok(Script {
         directive: false,
         body,
-        funcs: Seq::from_vec(reader.functions),
+        funcs: Seq::from_vec(parser.reader.functions),
     })
 }

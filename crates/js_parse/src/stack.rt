@@ -8,13 +8,13 @@ ghost use Rattle.js_parse.specs.declared.frames.Frame.TheVariants as frame;
 ghost use Rattle.js_parse.specs.declared.frames.Stage.TheVariants as stage;
 ghost use Rattle.js_parse.specs.Frames as frames;
 ghost use Rattle.js_parse.specs.Frames.{behind_first, field_on, keyed_on, operand_on, rank, read_on, Falls, IsNext, IsPart, IsReached, IsStage};
-ghost use Rattle.js_parse.specs.Reader.{rest_of, IsAnswer};
+ghost use Rattle.token_reader.specs.Reader.{rest_of, IsAnswer};
 
 use crate::frames::{First, Frame, Frames, Literal, Next, Open, Reached, Stage};
-use crate::operators::Operator;
-use crate::reader::Reader;
+use crate::parser::Parser;
 use js_tree::{Expr, ExprForm, Exprs, Field, Fields, Punctuator, ReadRefused};
 use js_value::{Place, Seq};
+use token_marks::Operator;
 
 /// Where to go on behind some properties of an object literal.
 fn stage_of(reached: Reached) -> Stage
@@ -26,28 +26,28 @@ fn stage_of(reached: Reached) -> Stage
     }
 }
 
-impl<'a> Reader<'a> {
+impl<'a> Parser<'a> {
     // ---- object literals
 
     /// The end of an object literal.
     #[tactic(auto, unfolding(js_grammar::specs::Rest::next))]
     fn literal_end(&mut self, at: Place, all: Fields) -> Result<Expr, ReadRefused>
-        ensures answer { IsAnswer (frames.literal_end at all) (rest_of self.old) (rest_of self.new) result }
-        ensures left { IfOk result (λ _. length self.new.rest.now < length self.old.rest.now) }
-        ensures within { length self.new.rest.now ≤ length self.old.rest.now }
+        ensures answer { IsAnswer (frames.literal_end at all) (rest_of self.old.reader) (rest_of self.new.reader) result }
+        ensures left { IfOk result (λ _. length self.new.reader.rest.now < length self.old.reader.rest.now) }
+        ensures within { length self.new.reader.rest.now ≤ length self.old.reader.rest.now }
     {
-        self.expect(Punctuator::RightBrace)?;
-        self.finish(at, ExprForm::ObjectLit(all))
+        self.reader.expect(Punctuator::RightBrace)?;
+        self.reader.finish(at, ExprForm::ObjectLit(all))
     }
 
     /// What stands behind a property of an object literal.
     #[tactic(auto, unfolding(js_grammar::specs::Rest::next))]
     fn literal_behind(&mut self, at: Place, so_far: Fields) -> Result<Reached, ReadRefused>
-        ensures answer { IsReached (frames.literal_behind at so_far) (rest_of self.old) (rest_of self.new) result }
-        ensures left { IfOk result (λ _. length self.new.rest.now < length self.old.rest.now) }
-        ensures within { length self.new.rest.now ≤ length self.old.rest.now }
+        ensures answer { IsReached (frames.literal_behind at so_far) (rest_of self.old.reader) (rest_of self.new.reader) result }
+        ensures left { IfOk result (λ _. length self.new.reader.rest.now < length self.old.reader.rest.now) }
+        ensures within { length self.new.reader.rest.now ≤ length self.old.reader.rest.now }
     {
-        if self.take(Punctuator::Comma) {
+        if self.reader.take(Punctuator::Comma) {
             return Ok(Reached::Fields(at, so_far));
         }
         let x = self.literal_end(at, so_far)?;
@@ -58,9 +58,9 @@ impl<'a> Reader<'a> {
     #[cycle(reading)]
     #[tactic(auto, using(crate::proofs::Steps::reached_by))]
     pub fn value(&mut self, literal: Literal, x: Expr) -> Result<Reached, ReadRefused>
-        ensures answer { IsReached (frames.value literal x) (rest_of self.old) (rest_of self.new) result }
-        ensures left { IfOk result (λ _. length self.new.rest.now < length self.old.rest.now) }
-        ensures within { length self.new.rest.now ≤ length self.old.rest.now }
+        ensures answer { IsReached (frames.value literal x) (rest_of self.old.reader) (rest_of self.new.reader) result }
+        ensures left { IfOk result (λ _. length self.new.reader.rest.now < length self.old.reader.rest.now) }
+        ensures within { length self.new.reader.rest.now ≤ length self.old.reader.rest.now }
     {
         let Literal {
             at,
@@ -77,13 +77,13 @@ impl<'a> Reader<'a> {
     /// The key of a property, whose value comes next.
     #[tactic(auto, using(crate::proofs::Steps::key_begins))]
     fn key(&mut self, frames: &mut Frames, at: Place, so_far: Fields) -> Result<Stage, ReadRefused>
-        ensures answer { IsStage (keyed_on at so_far frames.old) (rest_of self.old) frames.new (rest_of self.new) result }
-        ensures less { IfOk result (λ st. 3 * length self.new.rest.now + 2 * length frames.new + rank st < 3 * length self.old.rest.now + 2 * length frames.old) }
-        ensures within { length self.new.rest.now ≤ length self.old.rest.now }
+        ensures answer { IsStage (keyed_on at so_far frames.old) (rest_of self.old.reader) frames.new (rest_of self.new.reader) result }
+        ensures less { IfOk result (λ st. 3 * length self.new.reader.rest.now + 2 * length frames.new + rank st < 3 * length self.old.reader.rest.now + 2 * length frames.old) }
+        ensures within { length self.new.reader.rest.now ≤ length self.old.reader.rest.now }
     {
-        let key_at = self.here();
-        let key = self.expect_property_name()?;
-        self.expect(Punctuator::Colon)?;
+        let key_at = self.reader.here();
+        let key = self.reader.expect_property_name()?;
+        self.reader.expect(Punctuator::Colon)?;
         frames.push(Frame::Value(Literal {
             at,
             so_far,
@@ -97,16 +97,16 @@ impl<'a> Reader<'a> {
     #[cycle(reading)]
     #[tactic(auto, unfolding(js_grammar::specs::Primary::property))]
     pub fn accessor_field(&mut self) -> Result<Option<Field>, ReadRefused>
-        ensures answer { IsPart (primary.property grammar) (primary.valued grammar) (rest_of self.old) (rest_of self.new) result }
-        ensures left { IfOk result (λ found. IfSome found (λ _. length self.new.rest.now < length self.old.rest.now)) }
-        ensures within { length self.new.rest.now ≤ length self.old.rest.now }
+        ensures answer { IsPart (primary.property grammar) (primary.valued grammar) (rest_of self.old.reader) (rest_of self.new.reader) result }
+        ensures left { IfOk result (λ found. IfSome found (λ _. length self.new.reader.rest.now < length self.old.reader.rest.now)) }
+        ensures within { length self.new.reader.rest.now ≤ length self.old.reader.rest.now }
     {
-        let named = self.sees_property_second();
-        if self.sees_accessor(b"get") && named {
+        let named = self.reader.sees_property_second();
+        if self.reader.sees_accessor(b"get") && named {
             let field = self.getter()?;
             return Ok(Some(field));
         }
-        if self.sees_accessor(b"set") && named {
+        if self.reader.sees_accessor(b"set") && named {
             let field = self.setter()?;
             return Ok(Some(field));
         }
@@ -122,9 +122,9 @@ impl<'a> Reader<'a> {
         at: Place,
         mut so_far: Fields,
     ) -> Result<Stage, ReadRefused>
-        ensures answer { IsStage (field_on at so_far frames.old) (rest_of self.old) frames.new (rest_of self.new) result }
-        ensures less { IfOk result (λ st. 3 * length self.new.rest.now + 2 * length frames.new + rank st < 3 * length self.old.rest.now + 2 * length frames.old) }
-        ensures within { length self.new.rest.now ≤ length self.old.rest.now }
+        ensures answer { IsStage (field_on at so_far frames.old) (rest_of self.old.reader) frames.new (rest_of self.new.reader) result }
+        ensures less { IfOk result (λ st. 3 * length self.new.reader.rest.now + 2 * length frames.new + rank st < 3 * length self.old.reader.rest.now + 2 * length frames.old) }
+        ensures within { length self.new.reader.rest.now ≤ length self.old.reader.rest.now }
     {
         match self.accessor_field()? {
             Some(field) => {
@@ -144,12 +144,12 @@ impl<'a> Reader<'a> {
         at: Place,
         so_far: Fields,
     ) -> Result<Stage, ReadRefused>
-        ensures answer { IsStage (read_on (stage.Fields at so_far) frames.old) (rest_of self.old) frames.new (rest_of self.new) result }
-        ensures less { IfOk result (λ st. 3 * length self.new.rest.now + 2 * length frames.new + rank st < 3 * length self.old.rest.now + 2 * length frames.old) }
-        ensures within { length self.new.rest.now ≤ length self.old.rest.now }
+        ensures answer { IsStage (read_on (stage.Fields at so_far) frames.old) (rest_of self.old.reader) frames.new (rest_of self.new.reader) result }
+        ensures less { IfOk result (λ st. 3 * length self.new.reader.rest.now + 2 * length frames.new + rank st < 3 * length self.old.reader.rest.now + 2 * length frames.old) }
+        ensures within { length self.new.reader.rest.now ≤ length self.old.reader.rest.now }
     {
-        if self.take(Punctuator::RightBrace) {
-            let x = self.finish(at, ExprForm::ObjectLit(so_far))?;
+        if self.reader.take(Punctuator::RightBrace) {
+            let x = self.reader.finish(at, ExprForm::ObjectLit(so_far))?;
             return Ok(Stage::Operand(x));
         }
         self.field(frames, at, so_far)
@@ -161,33 +161,33 @@ impl<'a> Reader<'a> {
     #[cycle(reading)]
     #[tactic(auto, unfolding(js_grammar::specs::Rest::next))]
     pub fn perhaps_arguments(&mut self) -> Result<Exprs, ReadRefused>
-        ensures answer { IsAnswer frames.perhaps_arguments (rest_of self.old) (rest_of self.new) result }
-        ensures within { length self.new.rest.now ≤ length self.old.rest.now }
+        ensures answer { IsAnswer frames.perhaps_arguments (rest_of self.old.reader) (rest_of self.new.reader) result }
+        ensures within { length self.new.reader.rest.now ≤ length self.old.reader.rest.now }
     {
-        if self.take(Punctuator::LeftParenthesis) {
+        if self.reader.take(Punctuator::LeftParenthesis) {
             return self.arguments_behind();
         }
-        Ok(Seq::new(self.alloc))
+        Ok(Seq::new(self.reader.alloc))
     }
 
     /// `new` behind its callee (11.2.2).
     #[cycle(reading)]
     pub fn constructed(&mut self, at: Place, callee: Expr) -> Result<Expr, ReadRefused>
-        ensures answer { IsAnswer (frames.constructed at callee) (rest_of self.old) (rest_of self.new) result }
-        ensures within { length self.new.rest.now ≤ length self.old.rest.now }
+        ensures answer { IsAnswer (frames.constructed at callee) (rest_of self.old.reader) (rest_of self.new.reader) result }
+        ensures within { length self.new.reader.rest.now ≤ length self.old.reader.rest.now }
     {
         let args = self.perhaps_arguments()?;
-        self.finish(at, ExprForm::New(callee, args))
+        self.reader.finish(at, ExprForm::New(callee, args))
     }
 
     /// An operand, with its prefix operators where they may stand.
     #[cycle(reading)]
     #[tactic(auto, using(crate::proofs::Steps::begins_operand, crate::proofs::Steps::stage_by))]
     pub fn begin_unary(&mut self, frames: &mut Frames) -> Result<Stage, ReadRefused>
-        ensures answer { IsStage (read_on stage.Begin frames.old) (rest_of self.old) frames.new (rest_of self.new) result }
-        ensures less { IfOk result (λ st. 3 * length self.new.rest.now + 2 * length frames.new + rank st < 3 * length self.old.rest.now + 2 * length frames.old) }
-        ensures left { IfOk result (λ _. length self.new.rest.now < length self.old.rest.now) }
-        ensures within { length self.new.rest.now ≤ length self.old.rest.now }
+        ensures answer { IsStage (read_on stage.Begin frames.old) (rest_of self.old.reader) frames.new (rest_of self.new.reader) result }
+        ensures less { IfOk result (λ st. 3 * length self.new.reader.rest.now + 2 * length frames.new + rank st < 3 * length self.old.reader.rest.now + 2 * length frames.old) }
+        ensures left { IfOk result (λ _. length self.new.reader.rest.now < length self.old.reader.rest.now) }
+        ensures within { length self.new.reader.rest.now ≤ length self.old.reader.rest.now }
     {
         if frames.level().is_some() {
             if let Some(x) = self.prefixed()? {
@@ -201,10 +201,10 @@ impl<'a> Reader<'a> {
     #[cycle(reading)]
     #[tactic(auto, using(crate::proofs::Steps::begins_new, crate::proofs::Steps::begins_object))]
     pub fn begin_operand(&mut self, frames: &mut Frames) -> Result<Stage, ReadRefused>
-        ensures answer { IsStage (operand_on frames.old) (rest_of self.old) frames.new (rest_of self.new) result }
-        ensures less { IfOk result (λ st. 3 * length self.new.rest.now + 2 * length frames.new + rank st < 3 * length self.old.rest.now + 2 * length frames.old) }
-        ensures left { IfOk result (λ _. length self.new.rest.now < length self.old.rest.now) }
-        ensures within { length self.new.rest.now ≤ length self.old.rest.now }
+        ensures answer { IsStage (operand_on frames.old) (rest_of self.old.reader) frames.new (rest_of self.new.reader) result }
+        ensures less { IfOk result (λ st. 3 * length self.new.reader.rest.now + 2 * length frames.new + rank st < 3 * length self.old.reader.rest.now + 2 * length frames.old) }
+        ensures left { IfOk result (λ _. length self.new.reader.rest.now < length self.old.reader.rest.now) }
+        ensures within { length self.new.reader.rest.now ≤ length self.old.reader.rest.now }
     {
         match self.operand()? {
             First::Whole(x) => Ok(Stage::Operand(x)),
@@ -212,16 +212,16 @@ impl<'a> Reader<'a> {
                 frames.push(Frame::Callee(at))?;
                 Ok(Stage::Begin)
             }
-            First::Object(at) => Ok(Stage::Fields(at, Seq::new(self.alloc))),
+            First::Object(at) => Ok(Stage::Fields(at, Seq::new(self.reader.alloc))),
         }
     }
 
     /// What stands behind an operand: members, and the arguments of a `new` that waits, or calls and a postfix operator.
     #[cycle(reading)]
     pub fn behind_operand(&mut self, frames: &mut Frames, x: Expr) -> Result<Stage, ReadRefused>
-        ensures answer { IsStage (read_on (stage.Operand x) frames.old) (rest_of self.old) frames.new (rest_of self.new) result }
-        ensures less { IfOk result (λ st. 3 * length self.new.rest.now + 2 * length frames.new + rank st < 3 * length self.old.rest.now + 2 * length frames.old + 1) }
-        ensures within { length self.new.rest.now ≤ length self.old.rest.now }
+        ensures answer { IsStage (read_on (stage.Operand x) frames.old) (rest_of self.old.reader) frames.new (rest_of self.new.reader) result }
+        ensures less { IfOk result (λ st. 3 * length self.new.reader.rest.now + 2 * length frames.new + rank st < 3 * length self.old.reader.rest.now + 2 * length frames.old + 1) }
+        ensures within { length self.new.reader.rest.now ≤ length self.old.reader.rest.now }
     {
         match frames.callee() {
             Some(at) => {
@@ -232,7 +232,7 @@ impl<'a> Reader<'a> {
             }
             None => {
                 let whole = self.more_members(true, x)?;
-                let stepped = self.stepped(whole)?;
+                let stepped = self.reader.stepped(whole)?;
                 Ok(Stage::Unary(stepped))
             }
         }
@@ -242,21 +242,23 @@ impl<'a> Reader<'a> {
 
     /// An operator with its two operands.
     fn join(&self, pending: Open, right: Expr) -> Result<Expr, ReadRefused>
-        ensures { IsAnswer (frames.join pending right) (rest_of self.now) (rest_of self.now) result }
+        ensures { IsAnswer (frames.join pending right) (rest_of self.now.reader) (rest_of self.now.reader) result }
     {
         let Open { left, op, .. } = pending;
-        match op {
-            Operator::Binary(op) => self.finish(left.at, ExprForm::Binary(op, left, right)),
-            Operator::Logic(op) => self.finish(left.at, ExprForm::Logic(op, left, right)),
-        }
+        let at = left.at;
+        let form = match op {
+            Operator::Binary(op) => ExprForm::Binary(op, left, right),
+            Operator::Logic(op) => ExprForm::Logic(op, left, right),
+        };
+        self.reader.finish(at, form)
     }
 
     /// What waits, where no operator comes next that it waits for.
     #[cycle(reading)]
     pub fn behind_operators(&mut self, frames: &mut Frames, x: Expr) -> Result<Next, ReadRefused>
-        ensures answer { IsNext (behind_first frames.old x) (rest_of self.old) frames.new (rest_of self.new) result }
-        ensures less { IfOk result (λ next. Falls (3 * length self.new.rest.now + 2 * length frames.new) (3 * length self.old.rest.now + 2 * length frames.old) next) }
-        ensures within { length self.new.rest.now ≤ length self.old.rest.now }
+        ensures answer { IsNext (behind_first frames.old x) (rest_of self.old.reader) frames.new (rest_of self.new.reader) result }
+        ensures less { IfOk result (λ next. Falls (3 * length self.new.reader.rest.now + 2 * length frames.new) (3 * length self.old.reader.rest.now + 2 * length frames.old) next) }
+        ensures within { length self.new.reader.rest.now ≤ length self.old.reader.rest.now }
     {
         match frames.pop() {
             None => Ok(Next::Done(x)),
@@ -277,17 +279,17 @@ impl<'a> Reader<'a> {
     /// An operator that what waits lets pass, or what waits.
     #[cycle(reading)]
     pub fn behind_unary(&mut self, frames: &mut Frames, x: Expr) -> Result<Next, ReadRefused>
-        ensures answer { IsNext (read_on (stage.Unary x) frames.old) (rest_of self.old) frames.new (rest_of self.new) result }
-        ensures less { IfOk result (λ next. Falls (3 * length self.new.rest.now + 2 * length frames.new) (3 * length self.old.rest.now + 2 * length frames.old) next) }
-        ensures within { length self.new.rest.now ≤ length self.old.rest.now }
+        ensures answer { IsNext (read_on (stage.Unary x) frames.old) (rest_of self.old.reader) frames.new (rest_of self.new.reader) result }
+        ensures less { IfOk result (λ next. Falls (3 * length self.new.reader.rest.now + 2 * length frames.new) (3 * length self.old.reader.rest.now + 2 * length frames.old) next) }
+        ensures within { length self.new.reader.rest.now ≤ length self.old.reader.rest.now }
     {
         let Some((least, allows_in)) = frames.level() else {
             return self.behind_operators(frames, x);
         };
-        let Some((op, level)) = self.next_operator(least, allows_in) else {
+        let Some((op, level)) = self.reader.next_operator(least, allows_in) else {
             return self.behind_operators(frames, x);
         };
-        self.pass();
+        self.reader.pass();
         frames.push(Frame::Right(Open {
             left: x,
             op,
@@ -302,9 +304,9 @@ impl<'a> Reader<'a> {
     /// One step.
     #[cycle(reading)]
     pub fn turn(&mut self, frames: &mut Frames, stage: Stage) -> Result<Next, ReadRefused>
-        ensures answer { IsNext (read_on stage frames.old) (rest_of self.old) frames.new (rest_of self.new) result }
-        ensures less { IfOk result (λ next. Falls (3 * length self.new.rest.now + 2 * length frames.new) (3 * length self.old.rest.now + 2 * length frames.old + rank stage) next) }
-        ensures within { length self.new.rest.now ≤ length self.old.rest.now }
+        ensures answer { IsNext (read_on stage frames.old) (rest_of self.old.reader) frames.new (rest_of self.new.reader) result }
+        ensures less { IfOk result (λ next. Falls (3 * length self.new.reader.rest.now + 2 * length frames.new) (3 * length self.old.reader.rest.now + 2 * length frames.old + rank stage) next) }
+        ensures within { length self.new.reader.rest.now ≤ length self.old.reader.rest.now }
     {
         match stage {
             Stage::Begin => {
@@ -326,9 +328,9 @@ impl<'a> Reader<'a> {
     /// An operand, and all that waits for it.
     #[cycle(reading)]
     pub fn run(&mut self, mut frames: Frames) -> Result<Expr, ReadRefused>
-        ensures answer { IsAnswer (read_on stage.Begin frames) (rest_of self.old) (rest_of self.new) result }
-        ensures left { IfOk result (λ _. length self.new.rest.now < length self.old.rest.now) }
-        ensures within { length self.new.rest.now ≤ length self.old.rest.now }
+        ensures answer { IsAnswer (read_on stage.Begin frames) (rest_of self.old.reader) (rest_of self.new.reader) result }
+        ensures left { IfOk result (λ _. length self.new.reader.rest.now < length self.old.reader.rest.now) }
+        ensures within { length self.new.reader.rest.now ≤ length self.old.reader.rest.now }
     {
         let mut stage = self.begin_unary(&mut frames)?;
         'turn: loop {
@@ -343,11 +345,11 @@ impl<'a> Reader<'a> {
     #[cycle(reading)]
     #[tactic(auto, using(crate::proofs::Steps::operation_is, crate::proofs::Steps::answer_by))]
     pub fn operation(&mut self, allows_in: bool) -> Result<Expr, ReadRefused>
-        ensures answer { IsAnswer (expressions.logical_or grammar allows_in) (rest_of self.old) (rest_of self.new) result }
-        ensures left { IfOk result (λ _. length self.new.rest.now < length self.old.rest.now) }
-        ensures within { length self.new.rest.now ≤ length self.old.rest.now }
+        ensures answer { IsAnswer (expressions.logical_or grammar allows_in) (rest_of self.old.reader) (rest_of self.new.reader) result }
+        ensures left { IfOk result (λ _. length self.new.reader.rest.now < length self.old.reader.rest.now) }
+        ensures within { length self.new.reader.rest.now ≤ length self.old.reader.rest.now }
     {
-        let mut frames = Frames::new(self.alloc);
+        let mut frames = Frames::new(self.reader.alloc);
         frames.push(Frame::Operation(allows_in))?;
         self.run(frames)
     }
@@ -355,11 +357,11 @@ impl<'a> Reader<'a> {
     /// An operand with or without a postfix operator (11.3).
     #[cycle(reading)]
     pub fn postfix(&mut self) -> Result<Expr, ReadRefused>
-        ensures answer { IsAnswer (expressions.postfix grammar) (rest_of self.old) (rest_of self.new) result }
-        ensures left { IfOk result (λ _. length self.new.rest.now < length self.old.rest.now) }
-        ensures within { length self.new.rest.now ≤ length self.old.rest.now }
+        ensures answer { IsAnswer (expressions.postfix grammar) (rest_of self.old.reader) (rest_of self.new.reader) result }
+        ensures left { IfOk result (λ _. length self.new.reader.rest.now < length self.old.reader.rest.now) }
+        ensures within { length self.new.reader.rest.now ≤ length self.old.reader.rest.now }
     {
-        let mut frames = Frames::new(self.alloc);
+        let mut frames = Frames::new(self.reader.alloc);
         frames.push(Frame::Postfix)?;
         self.run(frames)
     }

@@ -1,26 +1,24 @@
 //! Statements (12).
 
-ghost use Rattle.std.specs.Prelude.{◌≡◌, ◌<◌, ◌≤◌, Ok, length, is_some, drop, IfOk, IfSome};
+ghost use Rattle.std.specs.Prelude.{◌≡◌, ◌<◌, ◌≤◌, length, IfOk};
 ghost use Rattle.js_grammar.specs.Blocks as blocks;
-ghost use Rattle.js_grammar.specs.Ends.{line_ends};
 ghost use Rattle.js_grammar.specs.Declarators as declarators;
-ghost use Rattle.std.specs.Option.{option_map};
-ghost use Rattle.js_tree.specs.declared.token.TokenForm.TheVariants as form;
 ghost use Rattle.js_grammar.specs.Marks as marks;
 ghost use Rattle.js_grammar.specs.Reading.{grammar};
-ghost use Rattle.js_grammar.specs.Rest.{of_first, part, repeat};
+ghost use Rattle.js_grammar.specs.Rest.{part, repeat};
 ghost use Rattle.js_grammar.specs.Statements as spec;
-ghost use Rattle.js_parse.specs.Reader.{rest_of, closed_by, IsAnswer, IsTaken};
-ghost use Rattle.js_parse.specs.Headers.{catch_name, form_of, named, returned, whole_of, IsHeader};
+ghost use Rattle.token_reader.specs.Reader.{rest_of, closed_by, IsAnswer};
+ghost use Rattle.js_parse.specs.Headers.{returned, whole_of, IsHeader};
+ghost use Rattle.token_marks.specs.Beginnings.{named};
 
-use crate::expressions::is_target;
-use crate::reader::{Closer, Reader};
-use crate::words::barred;
+use crate::parser::Parser;
 use js_tree::{
     Case, Cases, Catch, Declarator, Declarators, Expr, Feature, Finally, ForStart, ForTarget,
     Keyword, Name, Punctuator, ReadRefused, Stmt, StmtForm, Stmts, Token, TokenForm,
 };
 use js_value::{Place, Seq};
+use token_marks::{Beginning, Jump, barred, is_target};
+use token_reader::Closer;
 
 /// The header of a `for`.
 #[derive(Debug, Drop)]
@@ -39,109 +37,7 @@ fn whole(header: Header, body: Stmt) -> StmtForm
     }
 }
 
-/// The two jumps that may have a label.
-#[derive(Clone, Copy, Debug, PartialEq, Eq)]
-pub enum Jump {
-    Continue,
-    Break,
-}
-
-fn jump_form(jump: Jump) -> StmtForm
-    ensures { result ≡ form_of jump }
-{
-    match jump {
-        Jump::Continue => StmtForm::Continue,
-        Jump::Break => StmtForm::Break,
-    }
-}
-
-/// The statements that begin with a token of their own.
-#[derive(Clone, Copy, Debug, PartialEq, Eq)]
-pub enum Beginning {
-    Block,
-    Empty,
-    Var,
-    If,
-    Do,
-    While,
-    For,
-    Continue,
-    Break,
-    Return,
-    With,
-    Switch,
-    Throw,
-    Try,
-    Debugger,
-    Function,
-}
-
-fn worded_beginning(word: Keyword) -> Option<Beginning>
-    ensures { option_map named result ≡ spec.beginning (form.Reserved word) }
-{
-    match word {
-        Keyword::Var => Some(Beginning::Var),
-        Keyword::If => Some(Beginning::If),
-        Keyword::Do => Some(Beginning::Do),
-        Keyword::While => Some(Beginning::While),
-        Keyword::For => Some(Beginning::For),
-        Keyword::Continue => Some(Beginning::Continue),
-        Keyword::Break => Some(Beginning::Break),
-        Keyword::Return => Some(Beginning::Return),
-        Keyword::With => Some(Beginning::With),
-        Keyword::Switch => Some(Beginning::Switch),
-        Keyword::Throw => Some(Beginning::Throw),
-        Keyword::Try => Some(Beginning::Try),
-        Keyword::Debugger => Some(Beginning::Debugger),
-        Keyword::Function => Some(Beginning::Function),
-        _ => None,
-    }
-}
-
-fn begins(token: &TokenForm) -> Option<Beginning>
-    ensures { option_map named result ≡ spec.beginning token.now }
-{
-    match token {
-        TokenForm::Punctuator(Punctuator::LeftBrace) => Some(Beginning::Block),
-        TokenForm::Punctuator(Punctuator::Semicolon) => Some(Beginning::Empty),
-        TokenForm::Reserved(word) => worded_beginning(*word),
-        _ => None,
-    }
-}
-
-impl<'a> Reader<'a> {
-    fn take_beginning(&mut self) -> Option<Beginning>
-        ensures taken { IsTaken spec.beginning (rest_of self.old) (rest_of self.new) (option_map named result) }
-        ensures left { IfSome result (λ _. length self.new.rest.now < length self.old.rest.now) }
-        ensures within { length self.new.rest.now ≤ length self.old.rest.now }
-    {
-        let first = begins(&self.rest.first()?.form)?;
-        self.pass();
-        Some(first)
-    }
-
-    /// Whether the token behind the next one is a colon.
-    fn sees_colon_second(&self) -> bool
-        ensures { result ≡ is_some (of_first marks.colon (drop 1 self.now.rest.now)) }
-    {
-        match self.rest.get(1) {
-            Some(
-                Token {
-                    form: TokenForm::Punctuator(mark),
-                    ..
-                },
-            ) => *mark == Punctuator::Colon,
-            _ => false,
-        }
-    }
-
-    /// Whether a line end or the end of the text comes next.
-    fn is_line_ended(&self) -> bool
-        ensures { line_ends (rest_of self.now) ≡ Ok (result, rest_of self.now) }
-    {
-        self.begins_line() || self.is_ended()
-    }
-
+impl<'a> Parser<'a> {
     /// The initialiser of a declared name, and its place (12.2).
     #[cycle(reading)]
     #[tactic(auto, unfolding(js_grammar::specs::Rest::next))]
@@ -150,11 +46,11 @@ impl<'a> Reader<'a> {
         allows_in: bool,
         name: Name,
     ) -> Result<(Declarator, Place), ReadRefused>
-        ensures answer { IsAnswer (declarators.initialiser grammar allows_in name) (rest_of self.old) (rest_of self.new) result }
-        ensures within { length self.new.rest.now ≤ length self.old.rest.now }
+        ensures answer { IsAnswer (declarators.initialiser grammar allows_in name) (rest_of self.old.reader) (rest_of self.new.reader) result }
+        ensures within { length self.new.reader.rest.now ≤ length self.old.reader.rest.now }
     {
         let Name { at: named, text } = name;
-        if !self.take(Punctuator::Assign) {
+        if !self.reader.take(Punctuator::Assign) {
             let only = Declarator {
                 at: named,
                 name: text,
@@ -162,7 +58,7 @@ impl<'a> Reader<'a> {
             };
             return Ok((only, named));
         }
-        let at = self.here();
+        let at = self.reader.here();
         let x = self.assignment(allows_in)?;
         let whole = Declarator {
             at: named,
@@ -180,14 +76,14 @@ impl<'a> Reader<'a> {
         allows_in: bool,
         mut so_far: Declarators,
     ) -> Result<Declarators, ReadRefused>
-        ensures answer { IsAnswer (repeat (declarators.more_declarators grammar allows_in) so_far) (rest_of self.old) (rest_of self.new) result }
-        ensures within { length self.new.rest.now ≤ length self.old.rest.now }
+        ensures answer { IsAnswer (repeat (declarators.more_declarators grammar allows_in) so_far) (rest_of self.old.reader) (rest_of self.new.reader) result }
+        ensures within { length self.new.reader.rest.now ≤ length self.old.reader.rest.now }
     {
         'turn: loop {
-            if !self.take(Punctuator::Comma) {
+            if !self.reader.take(Punctuator::Comma) {
                 return Ok(so_far);
             }
-            let name = self.declared_name()?;
+            let name = self.reader.declared_name()?;
             let (d, _) = self.initialiser(allows_in, name)?;
             so_far.push(d)?;
         }
@@ -201,10 +97,10 @@ impl<'a> Reader<'a> {
         allows_in: bool,
         first: Declarator,
     ) -> Result<Declarators, ReadRefused>
-        ensures answer { IsAnswer (declarators.declarators_behind grammar allows_in first) (rest_of self.old) (rest_of self.new) result }
-        ensures within { length self.new.rest.now ≤ length self.old.rest.now }
+        ensures answer { IsAnswer (declarators.declarators_behind grammar allows_in first) (rest_of self.old.reader) (rest_of self.new.reader) result }
+        ensures within { length self.new.reader.rest.now ≤ length self.old.reader.rest.now }
     {
-        let mut all = Seq::new(self.alloc);
+        let mut all = Seq::new(self.reader.alloc);
         all.push(first)?;
         self.more_declarators(allows_in, all)
     }
@@ -213,13 +109,13 @@ impl<'a> Reader<'a> {
     #[cycle(reading)]
     #[tactic(auto, unfolding(js_grammar::specs::Rest::part))]
     pub fn inner_statement(&mut self) -> Result<Stmt, ReadRefused>
-        ensures answer { IsAnswer (part grammar.statement) (rest_of self.old) (rest_of self.new) result }
-        ensures left { IfOk result (λ _. length self.new.rest.now < length self.old.rest.now) }
-        ensures within { length self.new.rest.now ≤ length self.old.rest.now }
+        ensures answer { IsAnswer (part grammar.statement) (rest_of self.old.reader) (rest_of self.new.reader) result }
+        ensures left { IfOk result (λ _. length self.new.reader.rest.now < length self.old.reader.rest.now) }
+        ensures within { length self.new.reader.rest.now ≤ length self.old.reader.rest.now }
     {
-        let opened = self.enter()?;
+        let opened = self.reader.enter()?;
         let t = self.statement()?;
-        self.leave(opened);
+        self.reader.leave(opened);
         Ok(t)
     }
 
@@ -231,11 +127,11 @@ impl<'a> Reader<'a> {
         closer: Closer,
         mut so_far: Stmts,
     ) -> Result<Stmts, ReadRefused>
-        ensures answer { IsAnswer (repeat (blocks.more_statements grammar (closed_by closer)) so_far) (rest_of self.old) (rest_of self.new) result }
-        ensures within { length self.new.rest.now ≤ length self.old.rest.now }
+        ensures answer { IsAnswer (repeat (blocks.more_statements grammar (closed_by closer)) so_far) (rest_of self.old.reader) (rest_of self.new.reader) result }
+        ensures within { length self.new.reader.rest.now ≤ length self.old.reader.rest.now }
     {
         'turn: loop {
-            if self.is_closed(closer) {
+            if self.reader.is_closed(closer) {
                 return Ok(so_far);
             }
             let t = self.inner_statement()?;
@@ -247,83 +143,83 @@ impl<'a> Reader<'a> {
     #[cycle(reading)]
     #[tactic(auto, unfolding(js_grammar::specs::Blocks::statements))]
     pub fn statements(&mut self, closer: Closer) -> Result<Stmts, ReadRefused>
-        ensures answer { IsAnswer (blocks.statements grammar (closed_by closer)) (rest_of self.old) (rest_of self.new) result }
-        ensures within { length self.new.rest.now ≤ length self.old.rest.now }
+        ensures answer { IsAnswer (blocks.statements grammar (closed_by closer)) (rest_of self.old.reader) (rest_of self.new.reader) result }
+        ensures within { length self.new.reader.rest.now ≤ length self.old.reader.rest.now }
     {
-        self.more_statements(closer, Seq::new(self.alloc))
+        self.more_statements(closer, Seq::new(self.reader.alloc))
     }
 
     /// Statements up to the brace that closes (12.1).
     #[cycle(reading)]
     #[tactic(auto, unfolding(js_grammar::specs::Blocks::statements_behind_brace))]
     pub fn statements_behind_brace(&mut self) -> Result<Stmts, ReadRefused>
-        ensures answer { IsAnswer (blocks.statements_behind_brace grammar) (rest_of self.old) (rest_of self.new) result }
-        ensures within { length self.new.rest.now ≤ length self.old.rest.now }
+        ensures answer { IsAnswer (blocks.statements_behind_brace grammar) (rest_of self.old.reader) (rest_of self.new.reader) result }
+        ensures within { length self.new.reader.rest.now ≤ length self.old.reader.rest.now }
     {
         let body = self.statements(Closer::Brace)?;
-        self.expect(Punctuator::RightBrace)?;
+        self.reader.expect(Punctuator::RightBrace)?;
         Ok(body)
     }
 
     /// Statements in braces (12.1).
     #[cycle(reading)]
     pub fn braced(&mut self) -> Result<Stmts, ReadRefused>
-        ensures answer { IsAnswer (blocks.braced grammar) (rest_of self.old) (rest_of self.new) result }
-        ensures within { length self.new.rest.now ≤ length self.old.rest.now }
+        ensures answer { IsAnswer (blocks.braced grammar) (rest_of self.old.reader) (rest_of self.new.reader) result }
+        ensures within { length self.new.reader.rest.now ≤ length self.old.reader.rest.now }
     {
-        self.expect(Punctuator::LeftBrace)?;
+        self.reader.expect(Punctuator::LeftBrace)?;
         self.statements_behind_brace()
     }
 
     /// A block (12.1).
     #[cycle(reading)]
     pub fn block_behind(&mut self, at: Place) -> Result<Stmt, ReadRefused>
-        ensures answer { IsAnswer (spec.block_behind grammar at) (rest_of self.old) (rest_of self.new) result }
-        ensures within { length self.new.rest.now ≤ length self.old.rest.now }
+        ensures answer { IsAnswer (spec.block_behind grammar at) (rest_of self.old.reader) (rest_of self.new.reader) result }
+        ensures within { length self.new.reader.rest.now ≤ length self.old.reader.rest.now }
     {
         let body = self.statements_behind_brace()?;
-        self.finish_stmt(at, StmtForm::Block(body))
+        self.reader.finish_stmt(at, StmtForm::Block(body))
     }
 
     /// `var` with its declarators (12.2).
     #[cycle(reading)]
     #[tactic(auto, unfolding(js_grammar::specs::Statements::var_behind))]
     pub fn var_behind(&mut self, at: Place) -> Result<Stmt, ReadRefused>
-        ensures answer { IsAnswer (spec.var_behind grammar at) (rest_of self.old) (rest_of self.new) result }
-        ensures within { length self.new.rest.now ≤ length self.old.rest.now }
+        ensures answer { IsAnswer (spec.var_behind grammar at) (rest_of self.old.reader) (rest_of self.new.reader) result }
+        ensures within { length self.new.reader.rest.now ≤ length self.old.reader.rest.now }
     {
-        let name = self.declared_name()?;
+        let name = self.reader.declared_name()?;
         let (first, _) = self.initialiser(true, name)?;
         let all = self.declarators_behind(true, first)?;
-        self.end_declarators(&all)?;
-        self.finish_stmt(at, StmtForm::Var(all))
+        self.reader.end_declarators(&all)?;
+        self.reader.finish_stmt(at, StmtForm::Var(all))
     }
 
     /// An expression statement (12.4).
     #[cycle(reading)]
     #[tactic(auto, using(js_grammar::proofs::Unrolled::assignment_tied), unfolding(js_grammar::specs::Primary::expression_by))]
     pub fn expression_statement(&mut self) -> Result<Stmt, ReadRefused>
-        ensures answer { IsAnswer (spec.expression_statement grammar) (rest_of self.old) (rest_of self.new) result }
-        ensures left { IfOk result (λ _. length self.new.rest.now < length self.old.rest.now) }
-        ensures within { length self.new.rest.now ≤ length self.old.rest.now }
+        ensures answer { IsAnswer (spec.expression_statement grammar) (rest_of self.old.reader) (rest_of self.new.reader) result }
+        ensures left { IfOk result (λ _. length self.new.reader.rest.now < length self.old.reader.rest.now) }
+        ensures within { length self.new.reader.rest.now ≤ length self.old.reader.rest.now }
     {
         let left = self.assignment(true)?;
         let x = self.more_commas(true, left)?;
-        self.end_expression()?;
-        self.finish_stmt(x.at, StmtForm::Eval(x))
+        self.reader.end_expression()?;
+        self.reader.finish_stmt(x.at, StmtForm::Eval(x))
     }
 
     /// An expression statement, or a label (12.12), which is not supported.
     #[cycle(reading)]
     #[tactic(auto, unfolding(js_grammar::specs::Statements::expression_here))]
     pub fn expression_here(&mut self) -> Result<Stmt, ReadRefused>
-        ensures answer { IsAnswer (spec.expression_here grammar) (rest_of self.old) (rest_of self.new) result }
-        ensures left { IfOk result (λ _. length self.new.rest.now < length self.old.rest.now) }
-        ensures within { length self.new.rest.now ≤ length self.old.rest.now }
+        ensures answer { IsAnswer (spec.expression_here grammar) (rest_of self.old.reader) (rest_of self.new.reader) result }
+        ensures left { IfOk result (λ _. length self.new.reader.rest.now < length self.old.reader.rest.now) }
+        ensures within { length self.new.reader.rest.now ≤ length self.old.reader.rest.now }
     {
-        let at = self.here();
-        let colon = self.sees_colon_second();
-        match self.rest.first() {
+        let at = self.reader.here();
+        let colon = self.reader.sees_colon_second();
+        match self.reader.rest.first() {
             Some(
                 Token {
                     form: TokenForm::Name(name),
@@ -340,10 +236,10 @@ impl<'a> Reader<'a> {
     /// An expression in parentheses.
     #[cycle(reading)]
     pub fn head(&mut self) -> Result<Expr, ReadRefused>
-        ensures answer { IsAnswer (spec.head grammar) (rest_of self.old) (rest_of self.new) result }
-        ensures within { length self.new.rest.now ≤ length self.old.rest.now }
+        ensures answer { IsAnswer (spec.head grammar) (rest_of self.old.reader) (rest_of self.new.reader) result }
+        ensures within { length self.new.reader.rest.now ≤ length self.old.reader.rest.now }
     {
-        self.expect(Punctuator::LeftParenthesis)?;
+        self.reader.expect(Punctuator::LeftParenthesis)?;
         self.group_behind()
     }
 
@@ -351,10 +247,10 @@ impl<'a> Reader<'a> {
     #[cycle(reading)]
     #[tactic(auto, unfolding(js_grammar::specs::Rest::next))]
     pub fn else_part(&mut self) -> Result<Option<Stmt>, ReadRefused>
-        ensures answer { IsAnswer (spec.else_part grammar) (rest_of self.old) (rest_of self.new) result }
-        ensures within { length self.new.rest.now ≤ length self.old.rest.now }
+        ensures answer { IsAnswer (spec.else_part grammar) (rest_of self.old.reader) (rest_of self.new.reader) result }
+        ensures within { length self.new.reader.rest.now ≤ length self.old.reader.rest.now }
     {
-        if !self.take_word(Keyword::Else) {
+        if !self.reader.take_word(Keyword::Else) {
             return Ok(None);
         }
         let t = self.inner_statement()?;
@@ -365,48 +261,49 @@ impl<'a> Reader<'a> {
     #[cycle(reading)]
     #[tactic(auto, unfolding(js_grammar::specs::Statements::if_behind))]
     pub fn if_behind(&mut self, at: Place) -> Result<Stmt, ReadRefused>
-        ensures answer { IsAnswer (spec.if_behind grammar at) (rest_of self.old) (rest_of self.new) result }
-        ensures within { length self.new.rest.now ≤ length self.old.rest.now }
+        ensures answer { IsAnswer (spec.if_behind grammar at) (rest_of self.old.reader) (rest_of self.new.reader) result }
+        ensures within { length self.new.reader.rest.now ≤ length self.old.reader.rest.now }
     {
         let test = self.head()?;
         let then_part = self.inner_statement()?;
         let other = self.else_part()?;
-        self.finish_stmt(at, StmtForm::If(test, then_part, other))
+        self.reader
+            .finish_stmt(at, StmtForm::If(test, then_part, other))
     }
 
     /// `do` (12.6.1).
     #[cycle(reading)]
     #[tactic(auto, unfolding(js_grammar::specs::Statements::do_behind))]
     pub fn do_behind(&mut self, at: Place) -> Result<Stmt, ReadRefused>
-        ensures answer { IsAnswer (spec.do_behind grammar at) (rest_of self.old) (rest_of self.new) result }
-        ensures within { length self.new.rest.now ≤ length self.old.rest.now }
+        ensures answer { IsAnswer (spec.do_behind grammar at) (rest_of self.old.reader) (rest_of self.new.reader) result }
+        ensures within { length self.new.reader.rest.now ≤ length self.old.reader.rest.now }
     {
         let body = self.inner_statement()?;
-        self.expect_word(Keyword::While)?;
+        self.reader.expect_word(Keyword::While)?;
         let test = self.head()?;
-        self.end_do()?;
-        self.finish_stmt(at, StmtForm::DoWhile(body, test))
+        self.reader.end_do()?;
+        self.reader.finish_stmt(at, StmtForm::DoWhile(body, test))
     }
 
     /// `while` (12.6.2).
     #[cycle(reading)]
     #[tactic(auto, unfolding(js_grammar::specs::Statements::while_behind))]
     pub fn while_behind(&mut self, at: Place) -> Result<Stmt, ReadRefused>
-        ensures answer { IsAnswer (spec.while_behind grammar at) (rest_of self.old) (rest_of self.new) result }
-        ensures within { length self.new.rest.now ≤ length self.old.rest.now }
+        ensures answer { IsAnswer (spec.while_behind grammar at) (rest_of self.old.reader) (rest_of self.new.reader) result }
+        ensures within { length self.new.reader.rest.now ≤ length self.old.reader.rest.now }
     {
         let test = self.head()?;
         let body = self.inner_statement()?;
-        self.finish_stmt(at, StmtForm::While(test, body))
+        self.reader.finish_stmt(at, StmtForm::While(test, body))
     }
 
     /// An expression, unless this punctuator comes next.
     #[cycle(reading)]
     pub fn expression_unless(&mut self, close: Punctuator) -> Result<Option<Expr>, ReadRefused>
-        ensures answer { IsAnswer (spec.expression_unless grammar (marks.punctuator close)) (rest_of self.old) (rest_of self.new) result }
-        ensures within { length self.new.rest.now ≤ length self.old.rest.now }
+        ensures answer { IsAnswer (spec.expression_unless grammar (marks.punctuator close)) (rest_of self.old.reader) (rest_of self.new.reader) result }
+        ensures within { length self.new.reader.rest.now ≤ length self.old.reader.rest.now }
     {
-        if self.sees(close) {
+        if self.reader.sees(close) {
             return Ok(None);
         }
         let x = self.expression(true)?;
@@ -417,14 +314,14 @@ impl<'a> Reader<'a> {
     #[cycle(reading)]
     #[tactic(auto, unfolding(js_grammar::specs::Statements::for_parts))]
     pub fn for_parts(&mut self, from: ForStart) -> Result<Header, ReadRefused>
-        ensures answer { IsHeader (spec.for_parts grammar from) (rest_of self.old) (rest_of self.new) result }
-        ensures within { length self.new.rest.now ≤ length self.old.rest.now }
+        ensures answer { IsHeader (spec.for_parts grammar from) (rest_of self.old.reader) (rest_of self.new.reader) result }
+        ensures within { length self.new.reader.rest.now ≤ length self.old.reader.rest.now }
     {
-        self.expect(Punctuator::Semicolon)?;
+        self.reader.expect(Punctuator::Semicolon)?;
         let test = self.expression_unless(Punctuator::Semicolon)?;
-        self.expect(Punctuator::Semicolon)?;
+        self.reader.expect(Punctuator::Semicolon)?;
         let step = self.expression_unless(Punctuator::RightParenthesis)?;
-        self.expect(Punctuator::RightParenthesis)?;
+        self.reader.expect(Punctuator::RightParenthesis)?;
         Ok(Header::Parts(from, test, step))
     }
 
@@ -432,11 +329,11 @@ impl<'a> Reader<'a> {
     #[cycle(reading)]
     #[tactic(auto, unfolding(js_grammar::specs::Statements::for_in))]
     pub fn for_in(&mut self, to: ForTarget) -> Result<Header, ReadRefused>
-        ensures answer { IsHeader (spec.for_in grammar to) (rest_of self.old) (rest_of self.new) result }
-        ensures within { length self.new.rest.now ≤ length self.old.rest.now }
+        ensures answer { IsHeader (spec.for_in grammar to) (rest_of self.old.reader) (rest_of self.new.reader) result }
+        ensures within { length self.new.reader.rest.now ≤ length self.old.reader.rest.now }
     {
         let object = self.expression(true)?;
-        self.expect(Punctuator::RightParenthesis)?;
+        self.reader.expect(Punctuator::RightParenthesis)?;
         Ok(Header::In(to, object))
     }
 
@@ -444,15 +341,15 @@ impl<'a> Reader<'a> {
     #[cycle(reading)]
     #[tactic(auto, unfolding(js_grammar::specs::Rest::next, js_grammar::specs::Statements::for_var))]
     pub fn for_var(&mut self) -> Result<Header, ReadRefused>
-        ensures answer { IsHeader (spec.for_var grammar) (rest_of self.old) (rest_of self.new) result }
-        ensures within { length self.new.rest.now ≤ length self.old.rest.now }
+        ensures answer { IsHeader (spec.for_var grammar) (rest_of self.old.reader) (rest_of self.new.reader) result }
+        ensures within { length self.new.reader.rest.now ≤ length self.old.reader.rest.now }
     {
-        let name = self.declared_name()?;
-        if self.take_word(Keyword::In) {
+        let name = self.reader.declared_name()?;
+        if self.reader.take_word(Keyword::In) {
             return self.for_in(ForTarget::Var(name.at, name.text));
         }
         let (first, at) = self.initialiser(false, name)?;
-        if self.take_word(Keyword::In) {
+        if self.reader.take_word(Keyword::In) {
             return Err(ReadRefused::Unsupported(at, Feature::ForInInitialiser));
         }
         let all = self.declarators_behind(false, first)?;
@@ -463,11 +360,11 @@ impl<'a> Reader<'a> {
     #[cycle(reading)]
     #[tactic(auto, unfolding(js_grammar::specs::Rest::next, js_grammar::specs::Statements::for_expression))]
     pub fn for_expression(&mut self) -> Result<Header, ReadRefused>
-        ensures answer { IsHeader (spec.for_expression grammar) (rest_of self.old) (rest_of self.new) result }
-        ensures within { length self.new.rest.now ≤ length self.old.rest.now }
+        ensures answer { IsHeader (spec.for_expression grammar) (rest_of self.old.reader) (rest_of self.new.reader) result }
+        ensures within { length self.new.reader.rest.now ≤ length self.old.reader.rest.now }
     {
         let x = self.expression(false)?;
-        if !self.take_word(Keyword::In) {
+        if !self.reader.take_word(Keyword::In) {
             return self.for_parts(ForStart::Expr(x));
         }
         if !is_target(&x) {
@@ -480,11 +377,11 @@ impl<'a> Reader<'a> {
     #[cycle(reading)]
     #[tactic(auto, unfolding(js_grammar::specs::Rest::next))]
     pub fn for_header(&mut self) -> Result<Header, ReadRefused>
-        ensures answer { IsHeader (spec.for_header grammar) (rest_of self.old) (rest_of self.new) result }
-        ensures within { length self.new.rest.now ≤ length self.old.rest.now }
+        ensures answer { IsHeader (spec.for_header grammar) (rest_of self.old.reader) (rest_of self.new.reader) result }
+        ensures within { length self.new.reader.rest.now ≤ length self.old.reader.rest.now }
     {
-        let without = self.sees(Punctuator::Semicolon);
-        if self.take_word(Keyword::Var) {
+        let without = self.reader.sees(Punctuator::Semicolon);
+        if self.reader.take_word(Keyword::Var) {
             return self.for_var();
         }
         if without {
@@ -497,44 +394,24 @@ impl<'a> Reader<'a> {
     #[cycle(reading)]
     #[tactic(auto, unfolding(js_grammar::specs::Rest::part, js_grammar::specs::Statements::for_behind))]
     pub fn for_behind(&mut self, at: Place) -> Result<Stmt, ReadRefused>
-        ensures answer { IsAnswer (spec.for_behind grammar at) (rest_of self.old) (rest_of self.new) result }
-        ensures within { length self.new.rest.now ≤ length self.old.rest.now }
+        ensures answer { IsAnswer (spec.for_behind grammar at) (rest_of self.old.reader) (rest_of self.new.reader) result }
+        ensures within { length self.new.reader.rest.now ≤ length self.old.reader.rest.now }
     {
-        self.expect(Punctuator::LeftParenthesis)?;
-        let opened = self.enter()?;
+        self.reader.expect(Punctuator::LeftParenthesis)?;
+        let opened = self.reader.enter()?;
         let header = self.for_header()?;
-        self.leave(opened);
+        self.reader.leave(opened);
         let body = self.inner_statement()?;
-        self.finish_stmt(at, whole(header, body))
-    }
-
-    /// `continue` or `break` (12.7, 12.8).
-    #[tactic(auto, unfolding(js_grammar::specs::Rest::next))]
-    pub fn jump_behind(&mut self, jump: Jump, at: Place) -> Result<Stmt, ReadRefused>
-        ensures answer { IsAnswer (spec.jump_behind grammar (form_of jump) at) (rest_of self.old) (rest_of self.new) result }
-        ensures within { length self.new.rest.now ≤ length self.old.rest.now }
-    {
-        if self.is_line_ended() {
-            return self.finish_stmt(at, jump_form(jump));
-        }
-        let name_at = self.here();
-        if let Some(name) = self.take_name()? {
-            if let Some(what) = barred(&name) {
-                return Err(ReadRefused::Unsupported(name_at, what));
-            }
-            return Err(ReadRefused::Unsupported(name_at, Feature::Label));
-        }
-        self.end_expression()?;
-        self.finish_stmt(at, jump_form(jump))
+        self.reader.finish_stmt(at, whole(header, body))
     }
 
     /// What `return` gives, where there is something (12.9).
     #[cycle(reading)]
     pub fn returned(&mut self) -> Result<Option<Expr>, ReadRefused>
-        ensures answer { IsAnswer returned (rest_of self.old) (rest_of self.new) result }
-        ensures within { length self.new.rest.now ≤ length self.old.rest.now }
+        ensures answer { IsAnswer returned (rest_of self.old.reader) (rest_of self.new.reader) result }
+        ensures within { length self.new.reader.rest.now ≤ length self.old.reader.rest.now }
     {
-        if self.sees(Punctuator::Semicolon) || self.sees(Punctuator::RightBrace) {
+        if self.reader.sees(Punctuator::Semicolon) || self.reader.sees(Punctuator::RightBrace) {
             return Ok(None);
         }
         let x = self.expression(true)?;
@@ -545,24 +422,24 @@ impl<'a> Reader<'a> {
     #[cycle(reading)]
     #[tactic(auto, unfolding(js_grammar::specs::Statements::return_behind))]
     pub fn return_behind(&mut self, at: Place) -> Result<Stmt, ReadRefused>
-        ensures answer { IsAnswer (spec.return_behind grammar at) (rest_of self.old) (rest_of self.new) result }
-        ensures within { length self.new.rest.now ≤ length self.old.rest.now }
+        ensures answer { IsAnswer (spec.return_behind grammar at) (rest_of self.old.reader) (rest_of self.new.reader) result }
+        ensures within { length self.new.reader.rest.now ≤ length self.old.reader.rest.now }
     {
-        if self.is_line_ended() {
-            return self.finish_stmt(at, StmtForm::Return(None));
+        if self.reader.is_line_ended() {
+            return self.reader.finish_stmt(at, StmtForm::Return(None));
         }
         let x = self.returned()?;
-        self.end_expression()?;
-        self.finish_stmt(at, StmtForm::Return(x))
+        self.reader.end_expression()?;
+        self.reader.finish_stmt(at, StmtForm::Return(x))
     }
 
     /// The statements of a clause (12.11).
     #[cycle(reading)]
     pub fn case_behind(&mut self, test: Option<Expr>) -> Result<Case, ReadRefused>
-        ensures answer { IsAnswer (spec.case_behind grammar test) (rest_of self.old) (rest_of self.new) result }
-        ensures within { length self.new.rest.now ≤ length self.old.rest.now }
+        ensures answer { IsAnswer (spec.case_behind grammar test) (rest_of self.old.reader) (rest_of self.new.reader) result }
+        ensures within { length self.new.reader.rest.now ≤ length self.old.reader.rest.now }
     {
-        self.expect(Punctuator::Colon)?;
+        self.reader.expect(Punctuator::Colon)?;
         let body = self.statements(Closer::Case)?;
         Ok(Case { test, body })
     }
@@ -570,8 +447,8 @@ impl<'a> Reader<'a> {
     /// A clause with its test (12.11).
     #[cycle(reading)]
     pub fn tested_case(&mut self) -> Result<Case, ReadRefused>
-        ensures answer { IsAnswer (spec.tested_case grammar) (rest_of self.old) (rest_of self.new) result }
-        ensures within { length self.new.rest.now ≤ length self.old.rest.now }
+        ensures answer { IsAnswer (spec.tested_case grammar) (rest_of self.old.reader) (rest_of self.new.reader) result }
+        ensures within { length self.new.reader.rest.now ≤ length self.old.reader.rest.now }
     {
         let test = self.expression(true)?;
         self.case_behind(Some(test))
@@ -585,22 +462,22 @@ impl<'a> Reader<'a> {
         mut so_far: Cases,
         mut defaults: bool,
     ) -> Result<Cases, ReadRefused>
-        ensures answer { IsAnswer (repeat (spec.more_cases grammar) (so_far, defaults)) (rest_of self.old) (rest_of self.new) result }
-        ensures within { length self.new.rest.now ≤ length self.old.rest.now }
+        ensures answer { IsAnswer (repeat (spec.more_cases grammar) (so_far, defaults)) (rest_of self.old.reader) (rest_of self.new.reader) result }
+        ensures within { length self.new.reader.rest.now ≤ length self.old.reader.rest.now }
     {
         'turn: loop {
-            if self.take(Punctuator::RightBrace) {
+            if self.reader.take(Punctuator::RightBrace) {
                 return Ok(so_far);
             }
-            if self.take_word(Keyword::Case) {
+            if self.reader.take_word(Keyword::Case) {
                 let case = self.tested_case()?;
                 so_far.push(case)?;
                 continue;
             }
             if defaults {
-                return self.unexpected();
+                return self.reader.unexpected();
             }
-            self.expect_word(Keyword::Default)?;
+            self.reader.expect_word(Keyword::Default)?;
             let case = self.case_behind(None)?;
             so_far.push(case)?;
             defaults = true;
@@ -611,55 +488,42 @@ impl<'a> Reader<'a> {
     #[cycle(reading)]
     #[tactic(auto, unfolding(js_grammar::specs::Statements::switch_behind))]
     pub fn switch_behind(&mut self, at: Place) -> Result<Stmt, ReadRefused>
-        ensures answer { IsAnswer (spec.switch_behind grammar at) (rest_of self.old) (rest_of self.new) result }
-        ensures within { length self.new.rest.now ≤ length self.old.rest.now }
+        ensures answer { IsAnswer (spec.switch_behind grammar at) (rest_of self.old.reader) (rest_of self.new.reader) result }
+        ensures within { length self.new.reader.rest.now ≤ length self.old.reader.rest.now }
     {
         let x = self.head()?;
-        self.expect(Punctuator::LeftBrace)?;
-        let cases = self.more_cases(Seq::new(self.alloc), false)?;
-        self.finish_stmt(at, StmtForm::Switch(x, cases))
+        self.reader.expect(Punctuator::LeftBrace)?;
+        let cases = self.more_cases(Seq::new(self.reader.alloc), false)?;
+        self.reader.finish_stmt(at, StmtForm::Switch(x, cases))
     }
 
     /// `throw` (12.13).
     #[cycle(reading)]
     #[tactic(auto, unfolding(js_grammar::specs::Statements::throw_behind))]
     pub fn throw_behind(&mut self, at: Place) -> Result<Stmt, ReadRefused>
-        ensures answer { IsAnswer (spec.throw_behind grammar at) (rest_of self.old) (rest_of self.new) result }
-        ensures within { length self.new.rest.now ≤ length self.old.rest.now }
+        ensures answer { IsAnswer (spec.throw_behind grammar at) (rest_of self.old.reader) (rest_of self.new.reader) result }
+        ensures within { length self.new.reader.rest.now ≤ length self.old.reader.rest.now }
     {
-        if self.begins_line() {
-            return self.unexpected();
+        if self.reader.begins_line() {
+            return self.reader.unexpected();
         }
         let x = self.expression(true)?;
-        self.end_expression()?;
-        self.finish_stmt(at, StmtForm::Throw(x))
-    }
-
-    /// The name of what was thrown, behind its parenthesis (12.14).
-    #[tactic(auto, unfolding(js_grammar::specs::Rest::part))]
-    pub fn catch_name(&mut self) -> Result<Name, ReadRefused>
-        ensures answer { IsAnswer catch_name (rest_of self.old) (rest_of self.new) result }
-        ensures within { length self.new.rest.now ≤ length self.old.rest.now }
-    {
-        let opened = self.enter()?;
-        let name = self.declared_name()?;
-        self.expect(Punctuator::RightParenthesis)?;
-        self.leave(opened);
-        Ok(name)
+        self.reader.end_expression()?;
+        self.reader.finish_stmt(at, StmtForm::Throw(x))
     }
 
     /// `catch` (12.14).
     #[cycle(reading)]
     #[tactic(auto, unfolding(js_grammar::specs::Rest::next))]
     pub fn catch_part(&mut self) -> Result<Option<Catch>, ReadRefused>
-        ensures answer { IsAnswer (spec.catch_part grammar) (rest_of self.old) (rest_of self.new) result }
-        ensures within { length self.new.rest.now ≤ length self.old.rest.now }
+        ensures answer { IsAnswer (spec.catch_part grammar) (rest_of self.old.reader) (rest_of self.new.reader) result }
+        ensures within { length self.new.reader.rest.now ≤ length self.old.reader.rest.now }
     {
-        if !self.take_word(Keyword::Catch) {
+        if !self.reader.take_word(Keyword::Catch) {
             return Ok(None);
         }
-        self.expect(Punctuator::LeftParenthesis)?;
-        let Name { at, text } = self.catch_name()?;
+        self.reader.expect(Punctuator::LeftParenthesis)?;
+        let Name { at, text } = self.reader.catch_name()?;
         let body = self.braced()?;
         Ok(Some(Catch {
             at,
@@ -672,10 +536,10 @@ impl<'a> Reader<'a> {
     #[cycle(reading)]
     #[tactic(auto, unfolding(js_grammar::specs::Rest::next))]
     pub fn finally_part(&mut self) -> Result<Option<Finally>, ReadRefused>
-        ensures answer { IsAnswer (spec.finally_part grammar) (rest_of self.old) (rest_of self.new) result }
-        ensures within { length self.new.rest.now ≤ length self.old.rest.now }
+        ensures answer { IsAnswer (spec.finally_part grammar) (rest_of self.old.reader) (rest_of self.new.reader) result }
+        ensures within { length self.new.reader.rest.now ≤ length self.old.reader.rest.now }
     {
-        if !self.take_word(Keyword::Finally) {
+        if !self.reader.take_word(Keyword::Finally) {
             return Ok(None);
         }
         let body = self.braced()?;
@@ -686,34 +550,35 @@ impl<'a> Reader<'a> {
     #[cycle(reading)]
     #[tactic(auto, unfolding(js_grammar::specs::Statements::try_behind))]
     pub fn try_behind(&mut self, at: Place) -> Result<Stmt, ReadRefused>
-        ensures answer { IsAnswer (spec.try_behind grammar at) (rest_of self.old) (rest_of self.new) result }
-        ensures within { length self.new.rest.now ≤ length self.old.rest.now }
+        ensures answer { IsAnswer (spec.try_behind grammar at) (rest_of self.old.reader) (rest_of self.new.reader) result }
+        ensures within { length self.new.reader.rest.now ≤ length self.old.reader.rest.now }
     {
         let body = self.braced()?;
         let handler = self.catch_part()?;
         let last = self.finally_part()?;
         if handler.is_none() && last.is_none() {
-            return self.unexpected();
+            return self.reader.unexpected();
         }
-        self.finish_stmt(at, StmtForm::Try(body, handler, last))
+        self.reader
+            .finish_stmt(at, StmtForm::Try(body, handler, last))
     }
 
     /// What is behind the first token of a statement that begins with one of its own.
     #[cycle(reading)]
     pub fn begun(&mut self, at: Place, first: Beginning) -> Result<Stmt, ReadRefused>
-        ensures answer { IsAnswer (spec.begun grammar at (named first)) (rest_of self.old) (rest_of self.new) result }
-        ensures within { length self.new.rest.now ≤ length self.old.rest.now }
+        ensures answer { IsAnswer (spec.begun grammar at (named first)) (rest_of self.old.reader) (rest_of self.new.reader) result }
+        ensures within { length self.new.reader.rest.now ≤ length self.old.reader.rest.now }
     {
         match first {
             Beginning::Block => self.block_behind(at),
-            Beginning::Empty => self.finish_stmt(at, StmtForm::Empty),
+            Beginning::Empty => self.reader.finish_stmt(at, StmtForm::Empty),
             Beginning::Var => self.var_behind(at),
             Beginning::If => self.if_behind(at),
             Beginning::Do => self.do_behind(at),
             Beginning::While => self.while_behind(at),
             Beginning::For => self.for_behind(at),
-            Beginning::Continue => self.jump_behind(Jump::Continue, at),
-            Beginning::Break => self.jump_behind(Jump::Break, at),
+            Beginning::Continue => self.reader.jump_behind(Jump::Continue, at),
+            Beginning::Break => self.reader.jump_behind(Jump::Break, at),
             Beginning::Return => self.return_behind(at),
             Beginning::With => Err(ReadRefused::Unsupported(at, Feature::With)),
             Beginning::Switch => self.switch_behind(at),
@@ -728,12 +593,12 @@ impl<'a> Reader<'a> {
     #[cycle(reading)]
     #[tactic(auto, using(js_grammar::proofs::Unrolled::statement_tied), unfolding(js_grammar::specs::Rest::next, js_grammar::specs::Statements::statement))]
     pub fn statement(&mut self) -> Result<Stmt, ReadRefused>
-        ensures answer { IsAnswer grammar.statement (rest_of self.old) (rest_of self.new) result }
-        ensures left { IfOk result (λ _. length self.new.rest.now < length self.old.rest.now) }
-        ensures within { length self.new.rest.now ≤ length self.old.rest.now }
+        ensures answer { IsAnswer grammar.statement (rest_of self.old.reader) (rest_of self.new.reader) result }
+        ensures left { IfOk result (λ _. length self.new.reader.rest.now < length self.old.reader.rest.now) }
+        ensures within { length self.new.reader.rest.now ≤ length self.old.reader.rest.now }
     {
-        let at = self.here();
-        match self.take_beginning() {
+        let at = self.reader.here();
+        match self.reader.take_beginning() {
             Some(first) => self.begun(at, first),
             None => self.expression_here(),
         }
@@ -743,14 +608,14 @@ impl<'a> Reader<'a> {
     #[cycle(reading)]
     #[tactic(auto, using(js_grammar::proofs::Unrolled::element_tied, js_grammar::proofs::Unrolled::statement_tied), unfolding(js_grammar::specs::Statements::element))]
     pub fn element(&mut self) -> Result<Stmt, ReadRefused>
-        ensures answer { IsAnswer grammar.element (rest_of self.old) (rest_of self.new) result }
-        ensures left { IfOk result (λ _. length self.new.rest.now < length self.old.rest.now) }
-        ensures within { length self.new.rest.now ≤ length self.old.rest.now }
+        ensures answer { IsAnswer grammar.element (rest_of self.old.reader) (rest_of self.new.reader) result }
+        ensures left { IfOk result (λ _. length self.new.reader.rest.now < length self.old.reader.rest.now) }
+        ensures within { length self.new.reader.rest.now ≤ length self.old.reader.rest.now }
     {
-        let at = self.here();
-        if self.sees_word(Keyword::Function) {
+        let at = self.reader.here();
+        if self.reader.sees_word(Keyword::Function) {
             let f = self.function_declaration(at)?;
-            return self.finish_stmt(at, StmtForm::FuncDecl(f));
+            return self.reader.finish_stmt(at, StmtForm::FuncDecl(f));
         }
         self.statement()
     }
