@@ -14,3 +14,5 @@ pub mod NoInputs
 pub mod SimpleScripts
 pub mod VariableListings
 pub mod Placed
+pub mod SameExpressions
+pub mod SameTexts

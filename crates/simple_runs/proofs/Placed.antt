@@ -1,6 +1,6 @@
 -- The residual of variables is a simple script, so its run rebuilds them by the rules of the whole language too.
-use Rattle.std.proofs.Common.{◌≡◌, ℕ, suc, pos, negsuc, ◌+◌, ◌≤◌, true, List, [], ◌∷◌, length, refl, ap, ◌∙◌, arith}
-use Rattle.std.specs.Prelude.{if◌then◌else◌, int_le, neg_ℤ, nat_le}
+use Rattle.std.proofs.Common.{◌≡◌, ℕ, suc, pos, negsuc, ◌+◌, ◌≤◌, true, List, [], ◌∷◌, length, map, refl, ap, ◌∙◌, arith}
+use Rattle.std.specs.Prelude.{if◌then◌else◌, int_le, neg_ℤ, nat_le, Some}
 use Rattle.std.specs.List.{list_all, IsDistinct}
 use Rattle.std.specs.Map.{keys_of}
 use Rattle.std.specs.Str.{bytes_eq}
@@ -10,7 +10,8 @@ use Rattle.js_value.specs.declared.place.Place.{Place}
 use Rattle.js_value.specs.declared.primitive.Primitive.{Primitive}
 use Rattle.js_value.specs.declared.primitive.Primitive.TheVariants as primitive
 use Rattle.js_tree.specs.Count.{nodes}
-use Rattle.js_tree.specs.Simple.{literal, reads_declared}
+use Rattle.js_tree.specs.Residual.{constant, variable}
+use Rattle.js_tree.specs.Simple.{literal, minus, reads_declared}
 use Rattle.js_tree.specs.SimpleScripts.{Sum, NoSum, LiteralAlone, sum_form, sum_in, is_simple_init, is_simple_declarator, is_simple}
 use Rattle.js_tree.specs.SimpleTokens.{greatest_literal, place, is_simple_name}
 use Rattle.js_tree.specs.declared.statement.StmtForm.TheVariants.{outs-Var}
@@ -31,24 +32,43 @@ sum-literal at n small = fold-literal Sum (Unit {0}) Sum sum_form (λ f. tt) (λ
 small_suc : (n : ℕ) → suc n ≤ greatest_literal → nat_le (suc n) greatest_literal ≡ true
 small_suc n le = grind (arith, le)
 
-simple_constant : (at : ℕ) (value : Primitive) → is_plain_value value ≡ true → is_simple_init (constant_at at value) ≡ true
-simple_constant at primitive.Undefined plain = refl
-simple_constant at (primitive.Number (pos n)) plain =
-    rw (sum-literal (place at) n (and_parts (int_le (neg_ℤ greatest) (pos n)) (int_le (pos n) greatest) plain).1) refl
-simple_constant at (primitive.Number (negsuc n)) plain =
+simple_literal : (at : Place) (n : ℕ) → is_plain_value (primitive.Number (pos n)) ≡ true → is_simple_init (Some (literal at (pos n))) ≡ true
+simple_literal at n plain = rw (sum-literal at n (and_parts (int_le (neg_ℤ greatest) (pos n)) (int_le (pos n) greatest) plain).1) refl
+
+simple_minus : (at next : Place) (n : ℕ) → is_plain_value (primitive.Number (negsuc n)) ≡ true → is_simple_init (Some (minus at (literal next (pos (suc n))))) ≡ true
+simple_minus at next n plain =
     rw (
-      fold-minus Sum (Unit {0}) Sum sum_form (λ f. tt) (λ e. e.form) (place at) (literal (place (at + 1)) (pos (suc n))),
-      sum-literal (place (at + 1)) (suc n) (small_suc n (safe_negsuc n plain)),
+      fold-minus Sum (Unit {0}) Sum sum_form (λ f. tt) (λ e. e.form) at (literal next (pos (suc n))),
+      sum-literal next (suc n) (small_suc n (safe_negsuc n plain)),
     )
     refl
-simple_constant at _ plain = cc
 
-simple_declarators : (vs : List (List ℕ × Primitive)) (from : ℕ) → is_readable vs ≡ true → list_all is_simple_declarator (variables_at from vs) ≡ true
+simple_constant_at : (at : ℕ) (value : Primitive) → is_plain_value value ≡ true → is_simple_init (constant_at at value) ≡ true
+simple_constant_at at primitive.Undefined plain = refl
+simple_constant_at at (primitive.Number (pos n)) plain = simple_literal (place at) n plain
+simple_constant_at at (primitive.Number (negsuc n)) plain = simple_minus (place at) (place (at + 1)) n plain
+simple_constant_at at _ plain = cc
+
+simple_constant : (value : Primitive) → is_plain_value value ≡ true → is_simple_init (constant value) ≡ true
+simple_constant primitive.Undefined plain = refl
+simple_constant (primitive.Number (pos n)) plain = simple_literal (place 0) n plain
+simple_constant (primitive.Number (negsuc n)) plain = simple_minus (place 0) (place 0) n plain
+simple_constant _ plain = cc
+
+pub simple_declarators : (vs : List (List ℕ × Primitive)) (from : ℕ) → is_readable vs ≡ true → list_all is_simple_declarator (variables_at from vs) ≡ true
 simple_declarators [] from readable = refl
 simple_declarators (v ∷ vs) from readable =
     let parts = and_parts (is_readable_variable v) (is_readable vs) readable in
     let this = and_parts (is_simple_name v.0) (is_plain_value v.1) parts.0 in
-    rw (this.0, simple_constant (from + length v.0 + 3) v.1 this.1) (simple_declarators vs (place_behind from v) parts.1)
+    rw (this.0, simple_constant_at (from + length v.0 + 3) v.1 this.1) (simple_declarators vs (place_behind from v) parts.1)
+
+-- the same without places
+pub simple_variables : (vs : List (List ℕ × Primitive)) → is_readable vs ≡ true → list_all is_simple_declarator (map variable vs) ≡ true
+simple_variables [] readable = refl
+simple_variables (v ∷ vs) readable =
+    let parts = and_parts (is_readable_variable v) (is_readable vs) readable in
+    let this = and_parts (is_simple_name v.0) (is_plain_value v.1) parts.0 in
+    rw (this.0, simple_constant v.1 this.1) (simple_variables vs parts.1)
 
 nothing_read : reads_declared [] ≡ true
 unfolding reads_declared

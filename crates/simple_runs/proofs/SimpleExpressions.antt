@@ -142,7 +142,7 @@ pub negative_part : (a : Sum) → is_sum (negative a) ≡ true → is_sum a ≡ 
 negative_part LiteralAlone h = refl
 negative_part a h = cc
 
-name_is_simple : (b : Bool) → is_sum (if b then Terms 1 else NoSum) ≡ true → b ≡ true
+pub name_is_simple : (b : Bool) → is_sum (if b then Terms 1 else NoSum) ≡ true → b ≡ true
 name_is_simple true h = refl
 name_is_simple false h = h
 

@@ -5,3 +5,4 @@ pub mod Listing
 pub mod Readable
 pub mod SimpleRuns
 pub mod SimpleListings
+pub mod SimpleTexts

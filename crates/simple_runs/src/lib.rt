@@ -15,6 +15,7 @@ ghost use Rattle.script_text.specs.CodeLine.{code_text};
 ghost use Rattle.simple_runs.specs.Readable.{is_readable, placed, variables_text};
 ghost use Rattle.simple_runs.specs.SimpleListings.{SimpleListings};
 ghost use Rattle.simple_runs.specs.SimpleRuns.{realm_with, SimpleRuns};
+ghost use Rattle.simple_runs.specs.SimpleTexts.{SimpleTexts};
 
 /// The residual of readable variables is a `var` statement of constants, and rebuilds them by the rules of the whole language: a law, with
 /// nothing to run.
@@ -40,4 +41,10 @@ pub fn simple_run_law()
 #[tactic(auto, using(crate::proofs::VariableListings::simple_listings))]
 pub fn simple_listing_law()
     ensures { SimpleListings code_text }
+{}
+
+/// A law of simple scripts: by the definition of the text of all scripts they have the text of simple scripts.
+#[tactic(auto, using(crate::proofs::SameTexts::simple_texts))]
+pub fn simple_text_law()
+    ensures { SimpleTexts }
 {}
