@@ -15,12 +15,12 @@ use Rattle.js_tree.specs.Mentions.{Names, hoisted_vars, hoisted_functions, names
 use Rattle.js_tree.specs.SimpleScripts.{is_simple}
 use Rattle.js_tree.specs.SimpleTokens.{place}
 use Rattle.js_tree.specs.Residual.{snapshot}
-use Rattle.js_tree.specs.Text.{script_text}
 use Rattle.plain_heap.specs.Heap.{Heap}
 use Rattle.plain_heap.specs.Values.{Prim}
 use Rattle.js_machine.specs.Machine.Choices.{Stopped, Leaves, open_run, IsWhole, EndsWithin, EndsOrWants}
 use Rattle.residual_form.specs.Form.{is_residual, is_fresh}
 use Rattle.script_text.specs.CodeLine.{code_text}
+use Rattle.script_text.specs.Printing.{script_text}
 use Rattle.js_machine.specs.Machine.Listed.{Listed, ListedProperty, DataLine, Row, RealmRow, listing, Agree}
 use Rattle.js_machine.specs.Machine.Numbers.{global}
 use Rattle.js_machine.specs.Machine.Walks.{World, HostEvent, Outcome, Ended, Left, Normally, plain}

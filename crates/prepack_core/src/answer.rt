@@ -11,7 +11,7 @@ use js_tree::{Feature, ReadRefused};
 use js_value::{NoMemory, Place};
 use residual_form::small_form_law;
 use script_reader::{few_nodes_law, is_simple, read, residual_law};
-use simple_runs::{simple_listing_law, simple_run_law, snapshot_law};
+use simple_runs::{simple_listing_law, simple_run_law, simple_text_law, snapshot_law};
 use std::alloc::Global;
 
 /// At most this many parts of a source are open at once, and no tree of it is higher.
@@ -74,6 +74,7 @@ pub fn answer(alloc: Global, steps: u64, source: &[u8]) -> Result<Vec<u8>, Repor
         Err(stop) => Err(report_of(stop)),
         Ok(variables) => {
             snapshot_law();
+            simple_text_law();
             small_form_law();
             residual_law();
             Ok(residual_text(alloc, &variables)?)

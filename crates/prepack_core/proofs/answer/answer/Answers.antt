@@ -31,7 +31,7 @@ returns-clause-ok c =
     let vs = c.in-Ok.variables in
     let whole = c.small_form_law.ensures in
     let readable = c.residual_text.ensures.readable in
-    residual_of c.args.steps c.args.source.now c.in_ok-residual_text-in-Ok.field-0.items s vs c.simple_run_law.ensures c.simple_listing_law.ensures (sym c.in_ok-is_simple.ensures ∙ c.if-not-branch.false) c.in_ok-script.ensures takes
+    residual_of c.args.steps c.args.source.now c.in_ok-residual_text-in-Ok.field-0.items s vs c.simple_run_law.ensures c.simple_listing_law.ensures c.simple_text_law.ensures (sym c.in_ok-is_simple.ensures ∙ c.if-not-branch.false) readable c.in_ok-script.ensures takes
     (few_steps (nodes s) (length c.args.source.now) c.args.steps few c.requires.short c.requires.enough) c.in-Ok.ensures
     (c.in_ok-residual_text-in-Ok.ensures.text ∙ sym (law.spelled vs readable)) (c.residual_law.ensures.reads_back vs readable) (whole.form (placed vs) (law.residual vs)) (whole.fresh (placed vs) s (law.residual vs)) (law.same_text vs readable)
     (λ w. law.rebuilds vs w readable c.residual_text.ensures.distinct)
