@@ -31,9 +31,10 @@ use Rattle.js_parse.specs.declared.frames.Stage.TheVariants as stage
 use Rattle.token_marks.specs.declared.operators.Level.{Level}
 use Rattle.token_marks.specs.declared.operators.Operator.{Operator}
 use Rattle.js_parse.specs.Frames.{IsFirst, IsNext, IsReached, IsStage, assigned, behind_all, behind_first, field_on, chosen, constructed, keyed_on, level_of}
-use Rattle.js_parse.specs.Frames.{stage_of, literal_behind, literal_from, of_first, operand_on, read_on, stepped, tighter}
+use Rattle.js_parse.specs.Frames.{stage_of, literal_behind, literal_from, of_first, operand_on, read_on, tighter}
 use Rattle.js_parse.proofs.Next.{absent, next_some, next_none, not_seen, there}
 use Rattle.token_marks.specs.Levels.{number, found_of}
+use Rattle.token_reader.specs.Parts.{stepped}
 use Rattle.token_reader.specs.Reader.{taken, IsAnswer, IsTaken}
 
 -- ---- an answer to one reading is one to a reading that is the same there
