@@ -13,6 +13,7 @@ use js_tree::{Func, Script};
 use js_value::{Bytes, FuncNo, NoMemory, Text};
 use lexing_back::lexing_back;
 use reading_back::reading_back;
+use reading_limits::reading_limits;
 use std::alloc::Global;
 use token_sheets::Sheet;
 
@@ -78,6 +79,7 @@ pub fn print(alloc: Global, script: &Script) -> Result<Bytes, NoMemory>
     lexing_back();
     reading_back();
     reading_laws();
+    reading_limits();
     let mut page = Sheet::lines(alloc);
     crate::functions::script(alloc, script, &mut page)?;
     Ok(page.into_bytes())
