@@ -1,0 +1,11 @@
+pub mod RelatedExpressions
+pub mod RelatedStatements
+pub mod Forgotten
+pub mod MentionedExpressions
+pub mod PlaceFree
+pub mod Hoisted
+pub mod MentionedStatements
+pub mod MentionedScripts
+pub mod Jumps
+pub mod Faults
+pub mod Law
