@@ -38,7 +38,10 @@ form_same (StmtForm-F.ForIn to object body) = ap (λ ns. ns ++ body) (target_sam
 form_same l = refl
 
 vars_same : (t : Stmt) → vars_in (unplaced.stmt t) ≡ vars_in t
-vars_same = stmt_same form_vars (λ c. joined c.body) (λ c. joined c.body) (λ f. joined f.body) (λ s. s.form) form_same (λ c. refl) (λ c. refl) (λ at f. refl)
+vars_same =
+    stmt_same
+    form_vars (λ c. joined c.body) (λ c. joined c.body) (λ f. joined f.body) (λ s. s.form) form_vars (λ c. joined c.body) (λ c. joined c.body) (λ f. joined f.body) (λ s. s.form)
+    form_same (λ c. refl) (λ c. refl) (λ f. refl) (λ at f. refl)
 
 -- over statements
 pub over : {A : Type 0} (f : Stmt → List A) → ((t : Stmt) → f (unplaced.stmt t) ≡ f t) → (ts : List Stmt) → flat_map f (map unplaced.stmt ts) ≡ flat_map f ts

@@ -8,4 +8,6 @@ pub mod MentionedStatements
 pub mod MentionedScripts
 pub mod Jumps
 pub mod Faults
+pub mod SourceOrder
+pub mod ReadableParts
 pub mod Law

@@ -7,6 +7,7 @@ use Rattle.js_value.specs.declared.place.FuncNo.{FuncNo}
 use Rattle.js_value.specs.declared.place.Place.{Place}
 use Rattle.js_tree.specs.declared.expression.Expr.{Expr}
 use Rattle.js_tree.specs.declared.expression.ExprForm.TheOpen.{ExprForm-F, Field-F}
+use Rattle.js_tree.specs.declared.expression.ExprForm.TheFolds.{map-ExprForm, map-Field}
 use Rattle.js_tree.specs.Mentions as M
 use Rattle.js_tree.specs.Mentions.{Mention, Mentioned, FieldMentions, Property, all_of, repeated}
 use Rattle.js_tree.specs.Refusals.{place}
@@ -33,6 +34,24 @@ Exprs = R.Two Same
 abbrev Fields : Type 0
 Fields = R.Two SameField
 
+abbrev Layer : Type 0
+Layer = ExprForm-F (R.Two SameAt) Fields Exprs
+
+abbrev left : Layer → ExprForm-F At FieldMentions Mentioned
+left = map-ExprForm (R.Two SameAt) Fields Exprs At FieldMentions Mentioned (λ p. p.0) (λ p. p.0) (λ p. p.0)
+
+abbrev right : Layer → ExprForm-F At FieldMentions Mentioned
+right = map-ExprForm (R.Two SameAt) Fields Exprs At FieldMentions Mentioned (λ p. p.1) (λ p. p.1) (λ p. p.1)
+
+abbrev FieldLayer : Type 0
+FieldLayer = Field-F (R.Two SameAt) Fields Exprs
+
+abbrev left_field : FieldLayer → Field-F At FieldMentions Mentioned
+left_field = map-Field (R.Two SameAt) Fields Exprs At FieldMentions Mentioned (λ p. p.0) (λ p. p.0) (λ p. p.0)
+
+abbrev right_field : FieldLayer → Field-F At FieldMentions Mentioned
+right_field = map-Field (R.Two SameAt) Fields Exprs At FieldMentions Mentioned (λ p. p.1) (λ p. p.1) (λ p. p.1)
+
 -- ---- lists of parts
 
 all_are : (ps : List Exprs) → all_of (map (λ (p : Exprs). p.0) ps) ≡ forgotten (all_of (map (λ (p : Exprs). p.1) ps))
@@ -57,16 +76,6 @@ object_is ps = joins _ _ _ _ (inside_fields ps) (ap (repeated []) (properties ps
 
 -- by what is inside functions
 module _ (inside declared unplaced_inside unplaced_declared : FuncNo → List Mention) (inside_is : (f : FuncNo) → unplaced_inside f ≡ forgotten (inside f)) where
-  abbrev left : ExprForm-F (R.Two SameAt) Fields Exprs → ExprForm-F At FieldMentions Mentioned
-  left =
-      R.left (M.form_mentions inside declared) (M.field_mentions inside declared) (λ x. x.form x.at) (M.form_mentions unplaced_inside unplaced_declared) (M.field_mentions unplaced_inside unplaced_declared) (λ x. x.form x.at)
-      SameAt SameField Same
-
-  abbrev right : ExprForm-F (R.Two SameAt) Fields Exprs → ExprForm-F At FieldMentions Mentioned
-  right =
-      R.right (M.form_mentions inside declared) (M.field_mentions inside declared) (λ x. x.form x.at) (M.form_mentions unplaced_inside unplaced_declared) (M.field_mentions unplaced_inside unplaced_declared) (λ x. x.form x.at)
-      SameAt SameField Same
-
   twice : (m n : List Mention) → m ≡ forgotten n → Same (M.both m) (M.both n)
   twice m n h = (h, h)
 
@@ -76,7 +85,7 @@ module _ (inside declared unplaced_inside unplaced_declared : FuncNo → List Me
   elements (None ∷ ps) at = elements ps at
   elements (Some p ∷ ps) at = joins p.0.0 _ p.1.0 _ p.2.0 (elements ps at)
 
-  forms : (y : ExprForm-F (R.Two SameAt) Fields Exprs) → SameAt (M.form_mentions unplaced_inside unplaced_declared (left y)) (M.form_mentions inside declared (right y))
+  forms : (y : Layer) → SameAt (M.form_mentions unplaced_inside unplaced_declared (left y)) (M.form_mentions inside declared (right y))
   forms ExprForm-F.This at = (refl, refl)
   forms (ExprForm-F.Name text) at = (refl, refl)
   forms (ExprForm-F.Literal value) at = (refl, refl)
@@ -97,17 +106,7 @@ module _ (inside declared unplaced_inside unplaced_declared : FuncNo → List Me
   forms (ExprForm-F.Input kind text) at = (refl, refl)
   forms (ExprForm-F.HostCall kind text ps) at = (all_are ps, all_are ps)
 
-  abbrev left_field : Field-F (R.Two SameAt) Fields Exprs → Field-F At FieldMentions Mentioned
-  left_field =
-      R.left_field (M.form_mentions inside declared) (M.field_mentions inside declared) (λ x. x.form x.at) (M.form_mentions unplaced_inside unplaced_declared) (M.field_mentions unplaced_inside unplaced_declared) (λ x. x.form x.at)
-      SameAt SameField Same
-
-  abbrev right_field : Field-F (R.Two SameAt) Fields Exprs → Field-F At FieldMentions Mentioned
-  right_field =
-      R.right_field (M.form_mentions inside declared) (M.field_mentions inside declared) (λ x. x.form x.at) (M.form_mentions unplaced_inside unplaced_declared) (M.field_mentions unplaced_inside unplaced_declared) (λ x. x.form x.at)
-      SameAt SameField Same
-
-  fields : (y : Field-F (R.Two SameAt) Fields Exprs) → SameField (M.field_mentions unplaced_inside unplaced_declared (R.forget_field (left_field y))) (M.field_mentions inside declared (right_field y))
+  fields : (y : FieldLayer) → SameField (M.field_mentions unplaced_inside unplaced_declared (R.forget_field (left_field y))) (M.field_mentions inside declared (right_field y))
   fields (Field-F.Value at key x) = (refl, x.2.0)
   fields (Field-F.Getter at key f) = (refl, inside_is f)
   fields (Field-F.Setter at key f) = (refl, inside_is f)

@@ -6,8 +6,10 @@ use Rattle.js_value.specs.declared.place.Place.{Place}
 use Rattle.js_tree.specs.Refusals.{place}
 use Rattle.js_tree.specs.declared.expression.Expr.{Expr, fold-Expr}
 use Rattle.js_tree.specs.declared.expression.ExprForm.TheOpen.{ExprForm-F, Field-F, Expr-F}
+use Rattle.js_tree.specs.declared.expression.ExprForm.TheFolds.{map-ExprForm, map-Field}
 use Rattle.js_tree.specs.declared.statement.Stmt.{Stmt, fold-Stmt}
 use Rattle.js_tree.specs.declared.statement.StmtForm.TheOpen.{StmtForm-F, Case-F, Catch-F, Finally-F, Stmt-F}
+use Rattle.js_tree.specs.declared.statement.StmtForm.TheFolds.{map-StmtForm}
 use Rattle.reading_back.specs.Unplaced as unplaced
 use Rattle.early_back.proofs.RelatedExpressions.{Two, forget_field}
 use Rattle.early_back.proofs.RelatedExpressions as RE
@@ -23,16 +25,18 @@ alike {X = X} (p ∷ ps) = ap (λ x. x ∷ map (λ (p : Equal X). p.0) ps) p.2 �
 
 -- ---- expressions
 
-module _ {A B C : Type 0} (form : ExprForm-F A B C → A) (field : Field-F A B C → B) (expr : Expr-F A B C → C)
-    (no_field_place : (f : Field-F A B C) → field (forget_field f) ≡ field f) (no_place : (at : Place) (f : A) → expr (record { at = place 0; form = f }) ≡ expr (record { at = at; form = f })) where
+-- two rules that say the same where places are forgotten
+module _ {A B C : Type 0} (form : ExprForm-F A B C → A) (field : Field-F A B C → B) (expr : Expr-F A B C → C) (form_of : ExprForm-F A B C → A) (field_of : Field-F A B C → B) (expr_of : Expr-F A B C → C)
+    (forms : (l : ExprForm-F A B C) → form_of l ≡ form l) (fields : (f : Field-F A B C) → field_of (forget_field f) ≡ field f)
+    (exprs : (at : Place) (f : A) → expr_of (record { at = place 0; form = f }) ≡ expr (record { at = at; form = f })) where
   abbrev Layer : Type 0
   Layer = ExprForm-F (Equal A) (Equal B) (Equal C)
 
   abbrev left : Layer → ExprForm-F A B C
-  left = RE.left form field expr form field expr (λ a b. a ≡ b) (λ a b. a ≡ b) (λ a b. a ≡ b)
+  left = map-ExprForm (Equal A) (Equal B) (Equal C) A B C (λ p. p.0) (λ p. p.0) (λ p. p.0)
 
   abbrev right : Layer → ExprForm-F A B C
-  right = RE.right form field expr form field expr (λ a b. a ≡ b) (λ a b. a ≡ b) (λ a b. a ≡ b)
+  right = map-ExprForm (Equal A) (Equal B) (Equal C) A B C (λ p. p.1) (λ p. p.1) (λ p. p.1)
 
   abbrev put : {X Y Z : Type 0} → Option Z → ExprForm-F X Y Z → ExprForm-F X Y Z
   put o (ExprForm-F.ArrayLit xs) = ExprForm-F.ArrayLit (o ∷ xs)
@@ -66,41 +70,45 @@ module _ {A B C : Type 0} (form : ExprForm-F A B C → A) (field : Field-F A B C
   layers (ExprForm-F.HostCall kind text ps) = ap (λ xs. ExprForm-F.HostCall kind text xs) (alike ps)
 
   abbrev left_field : Field-F (Equal A) (Equal B) (Equal C) → Field-F A B C
-  left_field = RE.left_field form field expr form field expr (λ a b. a ≡ b) (λ a b. a ≡ b) (λ a b. a ≡ b)
+  left_field = map-Field (Equal A) (Equal B) (Equal C) A B C (λ p. p.0) (λ p. p.0) (λ p. p.0)
 
   abbrev right_field : Field-F (Equal A) (Equal B) (Equal C) → Field-F A B C
-  right_field = RE.right_field form field expr form field expr (λ a b. a ≡ b) (λ a b. a ≡ b) (λ a b. a ≡ b)
+  right_field = map-Field (Equal A) (Equal B) (Equal C) A B C (λ p. p.1) (λ p. p.1) (λ p. p.1)
 
   field_layers : (y : Field-F (Equal A) (Equal B) (Equal C)) → left_field y ≡ right_field y
   field_layers (Field-F.Value at key x) = ap (λ z. Field-F.Value at key z) x.2
   field_layers (Field-F.Getter at key f) = refl
   field_layers (Field-F.Setter at key f) = refl
 
-  each : RE.EachForm form field expr form field expr (λ a b. a ≡ b) (λ a b. a ≡ b) (λ a b. a ≡ b)
+  each : RE.EachForm form field expr form_of field_of expr_of (λ a b. a ≡ b) (λ a b. a ≡ b) (λ a b. a ≡ b)
   each = record {
-    forms = λ y. ap form (layers y);
-    fields = λ y. no_field_place (left_field y) ∙ ap field (field_layers y);
-    exprs = λ at p. no_place at p.0 ∙ ap (λ (f : A). expr (record { at = at; form = f })) p.2;
+    forms = λ y. forms (left y) ∙ ap form (layers y);
+    fields = λ y. fields (left_field y) ∙ ap field (field_layers y);
+    exprs = λ at p. exprs at p.0 ∙ ap (λ (f : A). expr (record { at = at; form = f })) p.2;
   }
 
-  pub expr_same : (x : Expr) → fold-Expr A B C form field expr (unplaced.expr x) ≡ fold-Expr A B C form field expr x
-  expr_same = RE.related form field expr form field expr (λ a b. a ≡ b) (λ a b. a ≡ b) (λ a b. a ≡ b) each
+  pub expr_same : (x : Expr) → fold-Expr A B C form_of field_of expr_of (unplaced.expr x) ≡ fold-Expr A B C form field expr x
+  expr_same = RE.related form field expr form_of field_of expr_of (λ a b. a ≡ b) (λ a b. a ≡ b) (λ a b. a ≡ b) each
 
 -- ---- statements
 
-module _ {A B C D E : Type 0} (form : StmtForm-F A B C D E → A) (clause : Case-F A B C D E → B) (handler : Catch-F A B C D E → C) (final : Finally-F A B C D E → D) (stmt : Stmt-F A B C D E → E)
-    (no_form_place : (l : StmtForm-F A B C D E) → form (forget_form l) ≡ form l)
-    (no_clause_place : (c : Case-F A B C D E) → clause (record { test = option_map unplaced.expr c.test; body = c.body }) ≡ clause c)
-    (no_handler_place : (c : Catch-F A B C D E) → handler (record { at = place 0; name = c.name; body = c.body }) ≡ handler c)
-    (no_stmt_place : (at : Place) (f : A) → stmt (record { at = place 0; form = f }) ≡ stmt (record { at = at; form = f })) where
+-- two rules that say the same where places are forgotten
+module _ {A B C D E : Type 0}
+    (form : StmtForm-F A B C D E → A) (clause : Case-F A B C D E → B) (handler : Catch-F A B C D E → C) (final : Finally-F A B C D E → D) (stmt : Stmt-F A B C D E → E)
+    (form_of : StmtForm-F A B C D E → A) (clause_of : Case-F A B C D E → B) (handler_of : Catch-F A B C D E → C) (final_of : Finally-F A B C D E → D) (stmt_of : Stmt-F A B C D E → E)
+    (forms : (l : StmtForm-F A B C D E) → form_of (forget_form l) ≡ form l)
+    (clauses : (c : Case-F A B C D E) → clause_of (record { test = option_map unplaced.expr c.test; body = c.body }) ≡ clause c)
+    (handlers : (c : Catch-F A B C D E) → handler_of (record { at = place 0; name = c.name; body = c.body }) ≡ handler c)
+    (finals : (f : Finally-F A B C D E) → final_of f ≡ final f)
+    (stmts : (at : Place) (f : A) → stmt_of (record { at = place 0; form = f }) ≡ stmt (record { at = at; form = f })) where
   abbrev StmtLayer : Type 0
   StmtLayer = StmtForm-F (Equal A) (Equal B) (Equal C) (Equal D) (Equal E)
 
   abbrev left_stmt : StmtLayer → StmtForm-F A B C D E
-  left_stmt = RS.left form clause handler final stmt form clause handler final stmt (λ a b. a ≡ b) (λ a b. a ≡ b) (λ a b. a ≡ b) (λ a b. a ≡ b) (λ a b. a ≡ b)
+  left_stmt = map-StmtForm (Equal A) (Equal B) (Equal C) (Equal D) (Equal E) A B C D E (λ p. p.0) (λ p. p.0) (λ p. p.0) (λ p. p.0) (λ p. p.0)
 
   abbrev right_stmt : StmtLayer → StmtForm-F A B C D E
-  right_stmt = RS.right form clause handler final stmt form clause handler final stmt (λ a b. a ≡ b) (λ a b. a ≡ b) (λ a b. a ≡ b) (λ a b. a ≡ b) (λ a b. a ≡ b)
+  right_stmt = map-StmtForm (Equal A) (Equal B) (Equal C) (Equal D) (Equal E) A B C D E (λ p. p.1) (λ p. p.1) (λ p. p.1) (λ p. p.1) (λ p. p.1)
 
   abbrev lefts : List (Equal E) → List E
   lefts ps = map (λ (p : Equal E). p.0) ps
@@ -130,14 +138,14 @@ module _ {A B C D E : Type 0} (form : StmtForm-F A B C D E → A) (clause : Case
       ∙ ap (λ z. StmtForm-F.Try (lefts ps) (Some c.1) (Some z)) f.2
       ∙ ap (λ xs. StmtForm-F.Try xs (Some c.1) (Some f.1)) (alike ps)
 
-  each_stmt : RS.EachForm form clause handler final stmt form clause handler final stmt (λ a b. a ≡ b) (λ a b. a ≡ b) (λ a b. a ≡ b) (λ a b. a ≡ b) (λ a b. a ≡ b)
+  each_stmt : RS.EachForm form clause handler final stmt form_of clause_of handler_of final_of stmt_of (λ a b. a ≡ b) (λ a b. a ≡ b) (λ a b. a ≡ b) (λ a b. a ≡ b) (λ a b. a ≡ b)
   each_stmt = record {
-    forms = λ y. no_form_place (left_stmt y) ∙ ap form (stmt_layers y);
-    cases = λ y. no_clause_place (record { test = y.test; body = lefts y.body }) ∙ ap (λ (xs : List E). clause (record { test = y.test; body = xs })) (alike y.body);
-    catches = λ y. no_handler_place (record { at = y.at; name = y.name; body = lefts y.body }) ∙ ap (λ (xs : List E). handler (record { at = y.at; name = y.name; body = xs })) (alike y.body);
-    finals = λ y. ap (λ (xs : List E). final (record { body = xs })) (alike y.body);
-    stmts = λ at p. no_stmt_place at p.0 ∙ ap (λ (f : A). stmt (record { at = at; form = f })) p.2;
+    forms = λ y. forms (left_stmt y) ∙ ap form (stmt_layers y);
+    cases = λ y. clauses (record { test = y.test; body = lefts y.body }) ∙ ap (λ (xs : List E). clause (record { test = y.test; body = xs })) (alike y.body);
+    catches = λ y. handlers (record { at = y.at; name = y.name; body = lefts y.body }) ∙ ap (λ (xs : List E). handler (record { at = y.at; name = y.name; body = xs })) (alike y.body);
+    finals = λ y. finals (record { body = lefts y.body }) ∙ ap (λ (xs : List E). final (record { body = xs })) (alike y.body);
+    stmts = λ at p. stmts at p.0 ∙ ap (λ (f : A). stmt (record { at = at; form = f })) p.2;
   }
 
-  pub stmt_same : (t : Stmt) → fold-Stmt A B C D E form clause handler final stmt (unplaced.stmt t) ≡ fold-Stmt A B C D E form clause handler final stmt t
-  stmt_same = RS.related form clause handler final stmt form clause handler final stmt (λ a b. a ≡ b) (λ a b. a ≡ b) (λ a b. a ≡ b) (λ a b. a ≡ b) (λ a b. a ≡ b) each_stmt
+  pub stmt_same : (t : Stmt) → fold-Stmt A B C D E form_of clause_of handler_of final_of stmt_of (unplaced.stmt t) ≡ fold-Stmt A B C D E form clause handler final stmt t
+  stmt_same = RS.related form clause handler final stmt form_of clause_of handler_of final_of stmt_of (λ a b. a ≡ b) (λ a b. a ≡ b) (λ a b. a ≡ b) (λ a b. a ≡ b) (λ a b. a ≡ b) each_stmt

@@ -131,7 +131,7 @@ module _ {A B C D E K L M N O : Type 0}
   abbrev FinalIs : Finally → Type 0
   FinalIs f = FinalsAre (of_final (finally f)) (in_final f)
 
-  abbrev pub StmtIs : Stmt → Type 0
+  abbrev StmtIs : Stmt → Type 0
   StmtIs t = StmtsAre (of_stmt (unplaced.stmt t)) (in_stmt t)
 
   abbrev KnownForm : Type 0

@@ -9,3 +9,7 @@ use Rattle.reading_back.specs.Unplaced as unplaced
 -- inputs with one name and two types are a fault where one stands before the other, and both may have one place in a tree.
 abbrev pub EarlyBack : Type 0
 EarlyBack = (s t : Script) → unplaced.script s ≡ unplaced.script t → is_readable s ≡ true → early_fault t ≡ None
+
+-- And reading can give it too.
+abbrev pub ReadableBack : Type 0
+ReadableBack = (s t : Script) → unplaced.script s ≡ unplaced.script t → is_readable s ≡ true → is_readable t ≡ true
