@@ -8,6 +8,7 @@ ghost use Rattle.script_text.specs.CodeLine as line;
 ghost use Rattle.script_text.specs.Printing as spec;
 
 use crate::expressions::Printer;
+use early_back::early_back;
 use js_grammar::reading_laws;
 use js_tree::{Func, Script};
 use js_value::{Bytes, FuncNo, NoMemory, Text};
@@ -80,6 +81,7 @@ pub fn print(alloc: Global, script: &Script) -> Result<Bytes, NoMemory>
     reading_back();
     reading_laws();
     reading_limits();
+    early_back();
     let mut page = Sheet::lines(alloc);
     crate::functions::script(alloc, script, &mut page)?;
     Ok(page.into_bytes())
