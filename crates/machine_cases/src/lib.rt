@@ -1,0 +1,11 @@
+//! Cases of the definitions of `js_machine`, worked out by hand, that stand beside those of `js_machine` itself.
+#![tactic(auto)]
+
+ghost use Rattle.machine_cases.specs.RealmOrder.{RealmOrder};
+
+/// The objects that are there from the start, one after another: the class and the prototype of each, its own properties in order
+/// with their values and attributes, those that are left out among them, and the `length` of each function.
+#[tactic(auto, using(crate::proofs::RealmOrder::realm_order))]
+pub fn realm_order_cases()
+    ensures { RealmOrder }
+{}
