@@ -1,1 +1,3 @@
 pub mod RealmOrder
+pub mod ObjectTurns
+pub mod ArrayTurns

@@ -1,1 +1,4 @@
 pub mod RealmOrder
+pub mod Budgets
+pub mod ObjectTurns
+pub mod ArrayTurns

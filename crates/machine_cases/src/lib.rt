@@ -1,6 +1,8 @@
 //! Cases of the definitions of `js_machine`, worked out by hand, that stand beside those of `js_machine` itself.
 #![tactic(auto)]
 
+ghost use Rattle.machine_cases.specs.ArrayTurns.{ArrayTurns};
+ghost use Rattle.machine_cases.specs.ObjectTurns.{ObjectTurns};
 ghost use Rattle.machine_cases.specs.RealmOrder.{RealmOrder};
 
 /// The objects that are there from the start, one after another: the class and the prototype of each, its own properties in order
@@ -8,4 +10,12 @@ ghost use Rattle.machine_cases.specs.RealmOrder.{RealmOrder};
 #[tactic(auto, using(crate::proofs::RealmOrder::realm_order))]
 pub fn realm_order_cases()
     ensures { RealmOrder }
+{}
+
+/// How many steps runs of the built-ins take: with so many a script ends, and with one less its steps are spent. The turns of a
+/// built-in that count are those over own properties, items, arguments and elements, holes among them.
+#[tactic(auto, using(crate::proofs::ObjectTurns::object_turns, crate::proofs::ArrayTurns::array_turns))]
+pub fn turn_cases()
+    ensures objects { ObjectTurns }
+    ensures arrays { ArrayTurns }
 {}
