@@ -1,3 +1,4 @@
 pub mod RealmOrder
 pub mod ObjectTurns
 pub mod ArrayTurns
+pub mod AgreementCases

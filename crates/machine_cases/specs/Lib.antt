@@ -2,3 +2,4 @@ pub mod RealmOrder
 pub mod Budgets
 pub mod ObjectTurns
 pub mod ArrayTurns
+pub mod AgreementCases

@@ -1,6 +1,7 @@
 //! Cases of the definitions of `js_machine`, worked out by hand, that stand beside those of `js_machine` itself.
 #![tactic(auto)]
 
+ghost use Rattle.machine_cases.specs.AgreementCases.{AgreementCases};
 ghost use Rattle.machine_cases.specs.ArrayTurns.{ArrayTurns};
 ghost use Rattle.machine_cases.specs.ObjectTurns.{ObjectTurns};
 ghost use Rattle.machine_cases.specs.RealmOrder.{RealmOrder};
@@ -18,4 +19,12 @@ pub fn realm_order_cases()
 pub fn turn_cases()
     ensures objects { ObjectTurns }
     ensures arrays { ArrayTurns }
+{}
+
+/// Which runs that ended agree: they made the same host calls, both ended normally or threw what is the same in the numbering of their
+/// listings, and these listings are equal. Runs that differ in one of these don't agree, and runs that didn't end never do. And which
+/// scripts are closed: those without inputs and host calls, in their functions too.
+#[tactic(auto, using(crate::proofs::AgreementCases::agreement_cases))]
+pub fn agreement_cases()
+    ensures { AgreementCases }
 {}
