@@ -2,3 +2,5 @@ pub mod RealmOrder
 pub mod ObjectTurns
 pub mod ArrayTurns
 pub mod AgreementCases
+pub mod NeedRuns
+pub mod LeftRuns

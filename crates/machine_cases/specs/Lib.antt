@@ -3,3 +3,5 @@ pub mod Budgets
 pub mod ObjectTurns
 pub mod ArrayTurns
 pub mod AgreementCases
+pub mod NeedRuns
+pub mod LeftRuns

@@ -3,6 +3,8 @@
 
 ghost use Rattle.machine_cases.specs.AgreementCases.{AgreementCases};
 ghost use Rattle.machine_cases.specs.ArrayTurns.{ArrayTurns};
+ghost use Rattle.machine_cases.specs.LeftRuns.{LeftRuns};
+ghost use Rattle.machine_cases.specs.NeedRuns.{NeedRuns};
 ghost use Rattle.machine_cases.specs.ObjectTurns.{ObjectTurns};
 ghost use Rattle.machine_cases.specs.RealmOrder.{RealmOrder};
 
@@ -27,4 +29,12 @@ pub fn turn_cases()
 #[tactic(auto, using(crate::proofs::AgreementCases::agreement_cases))]
 pub fn agreement_cases()
     ensures { AgreementCases }
+{}
+
+/// Where and why runs leave the profile, and where and why runs along choices stop: at a symbol as a key, as a base, as a length or as
+/// a number that a built-in takes. And the attributes of an error's message.
+#[tactic(auto, using(crate::proofs::LeftRuns::left_runs, crate::proofs::NeedRuns::need_runs))]
+pub fn left_cases()
+    ensures causes { LeftRuns }
+    ensures needs { NeedRuns }
 {}
