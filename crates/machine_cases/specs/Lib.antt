@@ -5,3 +5,4 @@ pub mod ArrayTurns
 pub mod AgreementCases
 pub mod NeedRuns
 pub mod LeftRuns
+pub mod CodeCases

@@ -3,6 +3,7 @@
 
 ghost use Rattle.machine_cases.specs.AgreementCases.{AgreementCases};
 ghost use Rattle.machine_cases.specs.ArrayTurns.{ArrayTurns};
+ghost use Rattle.machine_cases.specs.CodeCases.{CodeCases};
 ghost use Rattle.machine_cases.specs.LeftRuns.{LeftRuns};
 ghost use Rattle.machine_cases.specs.NeedRuns.{NeedRuns};
 ghost use Rattle.machine_cases.specs.ObjectTurns.{ObjectTurns};
@@ -37,4 +38,11 @@ pub fn agreement_cases()
 pub fn left_cases()
     ensures causes { LeftRuns }
     ensures needs { NeedRuns }
+{}
+
+/// The code of a function in a listing, where a scope binds some of its free names: each of them is written as its position among
+/// them, in the order in which they come first.
+#[tactic(auto, using(crate::proofs::CodeCases::code_cases))]
+pub fn code_cases()
+    ensures { CodeCases }
 {}

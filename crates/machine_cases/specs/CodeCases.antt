@@ -1,0 +1,65 @@
+-- Codes of functions in listings, worked out by hand: the k-th free name that a scope binds is written `%k` wherever it stands.
+use Rattle.std.specs.Prelude.{◌≡◌, ℕ, pos, List, [], ◌∷◌, ◌++◌, codes, Some, None}
+use Rattle.js_value.specs.declared.operator.BinaryOp.TheVariants as binary
+use Rattle.js_value.specs.declared.primitive.Primitive.TheVariants as primitive
+use Rattle.js_tree.specs.Mentions.{Names}
+use Rattle.js_tree.specs.Trees.{expr, stmt, no, declared, declarator, func, script}
+use Rattle.js_tree.specs.declared.expression.ExprForm.TheVariants as e
+use Rattle.js_tree.specs.declared.statement.Script.{Script}
+use Rattle.js_tree.specs.declared.statement.StmtForm.TheVariants as s
+use Rattle.plain_heap.specs.Heap.{Heap, add_object, new_cell, new_scope}
+use Rattle.plain_heap.specs.Values.{number}
+use Rattle.js_machine.specs.ListingCases.{holding}
+use Rattle.js_machine.specs.Machine.Listed.{listing_by, queue_of}
+use Rattle.js_machine.specs.Machine.Objects.{function_state, prototype_state}
+use Rattle.js_machine.specs.Machine.Realm.{realm}
+use Rattle.js_machine.specs.Machine.RunText.{line, run_text}
+use Rattle.js_machine.specs.Machine.Walks.{Normally}
+use Rattle.script_text.specs.CodeLine.{code_text}
+
+-- var f = (function (a, b) { return function () { return b + a + b; }; })(1, 2);
+abbrev pub two_names : Script
+two_names =
+    script (stmt 0 (s.Var (declarator 4 (codes "f") (Some (expr 9 (e.Call (expr 9 (e.Func (no 0))) (expr 72 (e.Literal (primitive.Number (pos 1))) ∷ expr 75 (e.Literal (primitive.Number (pos 2))) ∷ [])))) ∷ [])) ∷ []) (func 9 None (declared 19 (codes "a") ∷ declared 22 (codes "b") ∷ []) (stmt 27 (s.Return (Some (expr 34 (e.Func (no 1))))) ∷ []) ∷ func 34 None [] (stmt 48 (s.Return (Some (expr 55 (e.Binary binary.Add (expr 55 (e.Binary binary.Add (expr 55 (e.Name (codes "b"))) (expr 59 (e.Name (codes "a"))))) (expr 63 (e.Name (codes "b"))))))) ∷ []) ∷ [])
+
+-- var f = function g() { return g; };
+abbrev pub own_name : Script
+own_name =
+    script (stmt 0 (s.Var (declarator 4 (codes "f") (Some (expr 8 (e.Func (no 0)))) ∷ [])) ∷ []) (func 8 (Some (declared 17 (codes "g"))) [] (stmt 23 (s.Return (Some (expr 30 (e.Name (codes "g"))))) ∷ []) ∷ [])
+
+-- ---- after the run of the first script, whose outer function nothing leads to
+
+abbrev pub after_two_names : Heap
+after_two_names =
+    new_scope None ((codes "a", 0) ∷ (codes "b", 1) ∷ []) (new_cell (number 2) (new_cell (number 1)
+    (add_object (prototype_state 43) (add_object (function_state (no 1) (Some 0) 0 44) (add_object (prototype_state 41) (add_object (function_state (no 0) None 2 42) (holding (codes "f") 43 realm)))))))
+
+-- where these are the free names of each function that is listed
+abbrev pub listed_text : Script → Names → Heap → List ℕ
+listed_text s free h = run_text (λ line. line) [] (queue_of (λ f. free) h Normally) Normally (listing_by (code_text s) (λ f. free) h Normally)
+
+abbrev pub two_names_text : List ℕ
+two_names_text =
+    line (codes "normal")
+    ++ line (codes "global")
+    ++ line (codes "  \"f\" = #1 we-")
+    ++ line (codes "#1 function Function.prototype")
+    ++ line (codes "  code function ( ) { return %1 + %2 + %1 ; }")
+    ++ line (codes "  cells @1 @2")
+    ++ line (codes "  \"length\" = 0 ---")
+    ++ line (codes "  \"prototype\" = #2 w--")
+    ++ line (codes "#2 object Object.prototype")
+    ++ line (codes "  \"constructor\" = #1 w-c")
+    ++ line (codes "@1 = 2")
+    ++ line (codes "@2 = 1")
+
+pub record CodeCases : Type 0 where
+  pub both_bound : code_text two_names (no 1) (codes "b" ∷ codes "a" ∷ []) ≡ codes "function ( ) { return %1 + %2 + %1 ; }"
+  -- where no scope binds `b`
+  pub one_bound : code_text two_names (no 1) (codes "a" ∷ []) ≡ codes "function ( ) { return b + %1 + b ; }"
+  -- the outer function's parameters are bound by its own code
+  pub parameters : code_text two_names (no 0) [] ≡ codes "function ( a , b ) { return function ( ) { return b + a + b ; } ; }"
+  -- the own name of a named expression is free in it, and isn't shown where it is declared
+  pub own_bound : code_text own_name (no 0) (codes "g" ∷ []) ≡ codes "function ( ) { return %1 ; }"
+  -- the cells stand in the order of the names
+  pub listed : listed_text two_names (codes "b" ∷ codes "a" ∷ []) after_two_names ≡ two_names_text
