@@ -4,7 +4,7 @@ use Rattle.js_tree.specs.declared.statement.Script.{Script}
 use Rattle.js_machine.specs.Machine.Realm.{realm}
 use Rattle.js_machine.specs.RunCases.{Seen, Values, StepsSpent, no_world, deep, seen}
 
--- what a script comes to with each of these budgets
+-- what a script comes to with each of these budgets, where thirty nodes and more may be active
 abbrev pub by_budget : ℕ → Script → List ℕ → List Seen
 by_budget d script budgets = map (seen realm [] (deep d) no_world script) budgets
 

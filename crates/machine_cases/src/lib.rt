@@ -24,20 +24,20 @@ pub fn turn_cases()
     ensures arrays { ArrayTurns }
 {}
 
-/// Which runs that ended agree: they made the same host calls, both ended normally or threw what is the same in the numbering of their
-/// listings, and these listings are equal. Runs that differ in one of these don't agree, and runs that didn't end never do. And which
-/// scripts are closed: those without inputs and host calls, in their functions too.
-#[tactic(auto, using(crate::proofs::AgreementCases::agreement_cases))]
-pub fn agreement_cases()
-    ensures { AgreementCases }
-{}
-
 /// Where and why runs leave the profile, and where and why runs along choices stop: at a symbol as a key, as a base, as a length or as
 /// a number that a built-in takes. And the attributes of an error's message.
 #[tactic(auto, using(crate::proofs::LeftRuns::left_runs, crate::proofs::NeedRuns::need_runs))]
 pub fn left_cases()
     ensures causes { LeftRuns }
     ensures needs { NeedRuns }
+{}
+
+/// Which runs that ended agree: they made the same host calls, both ended normally or threw what is the same in the numbering of their
+/// listings, and these listings are equal. Runs that differ in one of these don't agree, and runs that didn't end never do. And which
+/// scripts are closed: those without inputs and host calls, in their functions too.
+#[tactic(auto, using(crate::proofs::AgreementCases::agreement_cases))]
+pub fn agreement_cases()
+    ensures { AgreementCases }
 {}
 
 /// The code of a function in a listing, where a scope binds some of its free names: each of them is written as its position among
