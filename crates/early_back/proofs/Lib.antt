@@ -10,4 +10,5 @@ pub mod Jumps
 pub mod Faults
 pub mod SourceOrder
 pub mod ReadableParts
+pub mod Witness
 pub mod Law
