@@ -1,4 +1,4 @@
--- Places decide where a fault is, not whether there is one.
+-- Whatever places a readable script is given, it has no early fault, and is readable.
 use Rattle.std.specs.Prelude.{◌≡◌, true, None}
 use Rattle.js_tree.specs.declared.statement.Script.{Script}
 use Rattle.js_tree.specs.Early.{early_fault}
