@@ -36,14 +36,14 @@ the_call = simp (fold_out-Expr, fold_out-ExprForm, fold_out-Stmt, fold_out-StmtF
 -- ---- what differs
 
 -- what are told apart aren't equal
-apart : {A : Type 0} {a b : A} (f : A → Bool) → a ≡ b → f a ≡ true → f b ≡ false → ⊥
+pub apart : {A : Type 0} {a b : A} (f : A → Bool) → a ≡ b → f a ≡ true → f b ≡ false → ⊥
 apart f same here there = absurd (cc)
 
-abbrev number_in : Value → ℕ
+abbrev pub number_in : Value → ℕ
 number_in (Prim (primitive.Number n)) = unsigned_abs n
 number_in v = 0
 
-abbrev listed_number : ListedValue → ℕ
+abbrev pub listed_number : ListedValue → ℕ
 listed_number (Listed v) = number_in v
 listed_number (NewObject n) = n
 listed_number (RealmObject o) = o

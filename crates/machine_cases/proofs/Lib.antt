@@ -5,3 +5,4 @@ pub mod AgreementCases
 pub mod NeedRuns
 pub mod LeftRuns
 pub mod CodeCases
+pub mod CellCases

@@ -6,3 +6,4 @@ pub mod AgreementCases
 pub mod NeedRuns
 pub mod LeftRuns
 pub mod CodeCases
+pub mod CellCases

@@ -3,6 +3,7 @@
 
 ghost use Rattle.machine_cases.specs.AgreementCases.{AgreementCases};
 ghost use Rattle.machine_cases.specs.ArrayTurns.{ArrayTurns};
+ghost use Rattle.machine_cases.specs.CellCases.{CellCases};
 ghost use Rattle.machine_cases.specs.CodeCases.{CodeCases};
 ghost use Rattle.machine_cases.specs.LeftRuns.{LeftRuns};
 ghost use Rattle.machine_cases.specs.NeedRuns.{NeedRuns};
@@ -33,11 +34,12 @@ pub fn left_cases()
 {}
 
 /// Which runs that ended agree: they made the same host calls, both ended normally or threw what is the same in the numbering of their
-/// listings, and these listings are equal. Runs that differ in one of these don't agree, and runs that didn't end never do. And which
-/// scripts are closed: those without inputs and host calls, in their functions too.
-#[tactic(auto, using(crate::proofs::AgreementCases::agreement_cases))]
+/// listings, and these listings are equal, with the cells that functions share. Runs that differ in one of these don't agree, and
+/// runs that didn't end never do. And which scripts are closed: those without inputs and host calls, in their functions too.
+#[tactic(auto, using(crate::proofs::AgreementCases::agreement_cases, crate::proofs::CellCases::cell_cases))]
 pub fn agreement_cases()
-    ensures { AgreementCases }
+    ensures runs { AgreementCases }
+    ensures cells { CellCases }
 {}
 
 /// The code of a function in a listing, where a scope binds some of its free names: each of them is written as its position among

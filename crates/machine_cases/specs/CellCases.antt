@@ -1,0 +1,47 @@
+-- Runs that leave functions which have captured cells: whether they agree, worked out by hand.
+use Rattle.std.specs.Prelude.{ℕ, [], ◌∷◌, codes, Some, None}
+use Rattle.js_value.specs.declared.place.FuncNo.{FuncNo}
+use Rattle.js_tree.specs.Mentions.{Names}
+use Rattle.js_tree.specs.Trees.{expr, stmt, no, func, script}
+use Rattle.js_tree.specs.declared.expression.ExprForm.TheVariants as e
+use Rattle.js_tree.specs.declared.statement.Script.{Script}
+use Rattle.js_tree.specs.declared.statement.StmtForm.TheVariants as s
+use Rattle.plain_heap.specs.Heap.{Heap, add_object, new_cell, new_scope}
+use Rattle.plain_heap.specs.Values.{ScopeNo, number}
+use Rattle.js_machine.specs.ListingCases.{holding}
+use Rattle.js_machine.specs.Machine.Listed.{Agree}
+use Rattle.js_machine.specs.Machine.Objects.{function_state, prototype_state}
+use Rattle.js_machine.specs.Machine.Realm.{realm}
+use Rattle.js_machine.specs.Machine.Walks.{Ended, Normally}
+
+-- with one function, `function () { return n; }`
+abbrev pub reader : Script
+reader =
+    script [] (func 0 None [] (stmt 14 (s.Return (Some (expr 21 (e.Name (codes "n"))))) ∷ []) ∷ [])
+
+abbrev pub AgreeAsLeft : Heap → Heap → Type 0
+AgreeAsLeft h other = Agree {C = FuncNo × Names} (λ s f names. (f, names)) reader (Ended [] Normally h) reader (Ended [] Normally other)
+
+-- the variables f and g hold two function objects of this code, made in these scopes
+abbrev pub readers : ScopeNo → ScopeNo → Heap
+readers s t =
+    add_object (prototype_state 43) (add_object (function_state (no 0) (Some t) 0 44) (add_object (prototype_state 41) (add_object (function_state (no 0) (Some s) 0 42) (holding (codes "g") 43 (holding (codes "f") 41 realm)))))
+
+-- both read one cell, which holds this number
+abbrev pub one_cell : ℕ → Heap
+one_cell n = new_scope None ((codes "n", 0) ∷ []) (new_cell (number n) (readers 0 0))
+
+-- a cell was made before that nothing leads to, and the second function stands in an inner scope
+abbrev pub one_cell_later : Heap
+one_cell_later =
+    new_scope (Some 0) ((codes "m", 0) ∷ []) (new_scope None ((codes "n", 1) ∷ []) (new_cell (number 1) (new_cell (number 7) (readers 0 1))))
+
+-- each reads a cell of its own
+abbrev pub two_cells : Heap
+two_cells =
+    new_scope None ((codes "n", 1) ∷ []) (new_scope None ((codes "n", 0) ∷ []) (new_cell (number 1) (new_cell (number 1) (readers 0 1))))
+
+pub record CellCases : Type 0 where
+  pub same_cell : AgreeAsLeft (one_cell 1) one_cell_later
+  pub another_value : AgreeAsLeft (one_cell 1) (one_cell 2) → ⊥
+  pub own_cells : AgreeAsLeft (one_cell 1) two_cells → ⊥
