@@ -5,8 +5,8 @@ use Rattle.js_value.specs.declared.operator.UnaryOp.TheVariants as unary
 use Rattle.js_value.specs.declared.primitive.Kind.TheVariants as kind
 use Rattle.js_value.specs.declared.primitive.Primitive.TheVariants as primitive
 use Rattle.js_value.specs.Operators.{greatest_length}
-use Rattle.js_value.specs.declared.why.Why.TheVariants.{AbsentBuiltin, ClosedBuiltin, Fraction, Infinite, MinusZero, NotANumber, NumberSpelling, PrimitiveProperty, ProtoKey, TextLength, Unsafe}
-use Rattle.js_tree.specs.Trees.{expr, stmt, declarator, script}
+use Rattle.js_value.specs.declared.why.Why.TheVariants.{AbsentBuiltin, ClosedBuiltin, Fraction, Infinite, MinusZero, NotANumber, NumberSpelling, ObjectToPrimitive, PrimitiveProperty, PrimitiveThis, ProtoKey, TextLength, Unsafe}
+use Rattle.js_tree.specs.Trees.{expr, stmt, no, declarator, func, script}
 use Rattle.js_tree.specs.declared.expression.ExprForm.TheVariants as e
 use Rattle.js_tree.specs.declared.statement.Script.{Script}
 use Rattle.js_tree.specs.declared.statement.StmtForm.TheVariants as s
@@ -87,6 +87,18 @@ closed_callback = script (stmt 0 (s.Eval (expr 0 (e.Unary unary.Not (expr 1 (e.C
 abbrev pub absent_callee : Script
 absent_callee = script (stmt 0 (s.Eval (expr 0 (e.Unary unary.Not (expr 1 (e.Call (expr 1 (e.Member (expr 1 (e.ArrayLit [])) (codes "sort"))) []))))) ∷ []) []
 
+-- [1].map(function () { return 1 + 5 / 2; });
+abbrev pub in_callback : Script
+in_callback = script (stmt 0 (s.Eval (expr 0 (e.Call (expr 0 (e.Member (expr 0 (e.ArrayLit (Some (expr 1 (e.Literal (primitive.Number (pos 1)))) ∷ []))) (codes "map"))) (expr 8 (e.Func (no 0)) ∷ [])))) ∷ []) (func 8 None [] (stmt 22 (s.Return (Some (expr 29 (e.Binary binary.Add (expr 29 (e.Literal (primitive.Number (pos 1)))) (expr 33 (e.Binary binary.Div (expr 33 (e.Literal (primitive.Number (pos 5)))) (expr 37 (e.Literal (primitive.Number (pos 2)))))))))) ∷ []) ∷ [])
+
+-- ![1].map(function () { }, 5);
+abbrev pub this_of_callback : Script
+this_of_callback = script (stmt 0 (s.Eval (expr 0 (e.Unary unary.Not (expr 1 (e.Call (expr 1 (e.Member (expr 1 (e.ArrayLit (Some (expr 2 (e.Literal (primitive.Number (pos 1)))) ∷ []))) (codes "map"))) (expr 9 (e.Func (no 0)) ∷ expr 26 (e.Literal (primitive.Number (pos 5))) ∷ [])))))) ∷ []) (func 9 None [] [] ∷ [])
+
+-- ![1, {}].join();
+abbrev pub joined_within : Script
+joined_within = script (stmt 0 (s.Eval (expr 0 (e.Unary unary.Not (expr 1 (e.Call (expr 1 (e.Member (expr 1 (e.ArrayLit (Some (expr 2 (e.Literal (primitive.Number (pos 1)))) ∷ Some (expr 5 (e.ObjectLit [])) ∷ []))) (codes "join"))) []))))) ∷ []) []
+
 -- !(__abstract("string", "s") + __abstract("string", "s"));
 abbrev pub doubled : Script
 doubled = script (stmt 0 (s.Eval (expr 0 (e.Unary unary.Not (expr 2 (e.Binary binary.Add (expr 2 (e.Input kind.Text (codes "s"))) (expr 30 (e.Input kind.Text (codes "s")))))))) ∷ []) []
@@ -122,6 +134,9 @@ pub record LeftRuns : Type 0 where
   pub closed_within_run : (d : ℕ) → seen realm [] (deep d) no_world closed_within 200 ≡ LeavesAt ClosedBuiltin 4
   pub closed_callback_run : (d : ℕ) → seen realm [] (deep d) no_world closed_callback 200 ≡ LeavesAt ClosedBuiltin 1
   pub absent_callee_run : (d : ℕ) → seen realm [] (deep d) no_world absent_callee 200 ≡ LeavesAt AbsentBuiltin 1
+  pub in_callback_run : (d : ℕ) → seen realm [] (deep d) no_world in_callback 200 ≡ LeavesAt Fraction 33
+  pub this_of_callback_run : (d : ℕ) → seen realm [] (deep d) no_world this_of_callback 200 ≡ LeavesAt PrimitiveThis 1
+  pub joined_within_run : (d : ℕ) → seen realm [] (deep d) no_world joined_within 200 ≡ LeavesAt ObjectToPrimitive 1
   -- a text that is too long twice over
   pub doubled_run : (d : ℕ) (t : List ℕ) → nat_le (length (t ++ t)) greatest_length ≡ false → seen realm [] (deep d) (with_text t) doubled 200 ≡ LeavesAt TextLength 2
   pub message_attributes_run : (d : ℕ) → seen realm (codes "v" ∷ codes "x" ∷ codes "y" ∷ codes "z" ∷ []) (deep d) no_world message_attributes 200 ≡ Values (Some (text (codes "m")) ∷ Some (truth true) ∷ Some (truth false) ∷ Some (truth true) ∷ [])
