@@ -30,12 +30,12 @@ without_fault : (ts : Tokens) (tree : Script) (limit : ℕ) → early_fault tree
 unfolding read_checked
 without_fault ts tree limit none is = ap checked is ∙ ap (unless_fault tree) none
 
+unfaulted : (s tree : Script) (fault : Option ReadRefused) → unless_fault s fault ≡ Ok tree → unless_fault s None ≡ Ok tree
+unfaulted s tree None is = is
+unfaulted s tree (Some e) is = absurd (cc)
+
 unchecked : (r : Result Script ReadRefused) (tree : Script) → checked r ≡ Ok tree → r ≡ Ok tree
-unchecked (Ok s) tree is = by (early_fault s) is
-  where
-    by : (fault : Option ReadRefused) → unless_fault s fault ≡ Ok tree → Ok s ≡ Ok tree
-    by None is = is
-    by (Some e) is = absurd (cc)
+unchecked (Ok s) tree is = unfaulted s tree (early_fault s) is
 unchecked (Err e) tree is = is
 
 with_no_less : LimitsNesting → (ts : Tokens) (tree : Script) (nesting limit : ℕ) → early_fault tree ≡ None → nesting ≤ limit → read_checked ts nesting ≡ Ok tree → read_checked ts limit ≡ Ok tree
