@@ -23,10 +23,6 @@ pub both : (a b : Bool) → (a && b) ≡ true → (a ≡ true) × (b ≡ true)
 both true b h = (refl, h)
 both false b h = absurd (cc)
 
-neither : (a b : Bool) → (a || b) ≡ false → (a ≡ false) × (b ≡ false)
-neither false b h = (refl, h)
-neither true b h = absurd (cc)
-
 -- ---- the least fault
 
 a_fault : (b : Bool) (e least : ReadRefused) (es : List ReadRefused) → ((d : ReadRefused) → is_none (fold lesser (Some d) es) ≡ false) → is_none (fold lesser (if b then Some e else Some least) es) ≡ false

@@ -7,7 +7,7 @@ use Rattle.std.proofs.lemmas.List.{map-append}
 use Rattle.js_tree.specs.Mentions as M
 use Rattle.js_tree.specs.Mentions.{Mention, Names, Property, joined, unbound, unbound_one, owned_one, repeated, clash}
 use Rattle.js_tree.specs.Refusals.{place}
-use Rattle.js_tree.specs.Simple.{is_among}
+use Rattle.js_tree.specs.Parts.{is_among}
 use Rattle.early_back.proofs.RelatedExpressions.{Two}
 
 abbrev pub forget : Mention → Mention

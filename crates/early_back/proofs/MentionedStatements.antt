@@ -3,7 +3,7 @@ use Rattle.std.proofs.Common.{◌≡◌, List, [], ◌∷◌, ◌++◌, map, ref
 use Rattle.std.specs.Prelude.{Some, None}
 use Rattle.js_value.specs.declared.place.FuncNo.{FuncNo}
 use Rattle.js_tree.specs.Mentions as M
-use Rattle.js_tree.specs.Mentions.{Mention, joined, of_none, unbound}
+use Rattle.js_tree.specs.Mentions.{Mention, joined, unbound}
 use Rattle.js_tree.specs.declared.statement.Declarator.{Declarator}
 use Rattle.js_tree.specs.declared.statement.ForStart.{ForStart}
 use Rattle.js_tree.specs.declared.statement.ForStart.TheVariants as start

@@ -4,7 +4,6 @@ use Rattle.js_value.specs.declared.place.Place.{Place}
 use Rattle.js_grammar.specs.Rest.{Rest, Reading}
 use Rattle.js_grammar.specs.Laws.{Unrolls}
 use Rattle.js_grammar.specs.Functions as F
-use Rattle.js_grammar.specs.Functions.{Grammar}
 use Rattle.js_grammar.specs.Primary as P
 use Rattle.js_grammar.specs.Expressions as E
 use Rattle.js_grammar.specs.Declarators as D

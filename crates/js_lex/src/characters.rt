@@ -26,27 +26,6 @@ pub fn is_line_end(c: char) -> bool
     matches!(c, '\n' | '\r' | '\u{2028}' | '\u{2029}')
 }
 
-/// A character that an identifier name may begin with (7.6).
-#[tactic(auto, unfolding(js_tree::specs::Lexing::is_name_start, js_tree::specs::Lexing::is_name_part))]
-pub fn is_name_start(c: char) -> bool
-    ensures value { result ≡ spec.is_name_start c }
-    ensures part { result ≡ true → spec.is_name_part c ≡ true }
-{
-    unicode_ident::is_xid_start(c) | (c == '$') | (c == '_')
-}
-
-/// A character that an identifier name may go on with (7.6).
-#[tactic(auto, unfolding(js_tree::specs::Lexing::is_name_part))]
-pub fn is_name_part(c: char) -> bool
-    ensures { result ≡ spec.is_name_part c }
-{
-    unicode_ident::is_xid_continue(c)
-        | (c == '$')
-        | (c == '_')
-        | (c == '\u{200C}')
-        | (c == '\u{200D}')
-}
-
 /// The character at a position, or NUL past the end.
 pub fn char_at(z: &[char], at: usize) -> char
     ensures value { result ≡ slice_index z.now at }

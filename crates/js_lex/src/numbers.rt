@@ -5,8 +5,8 @@ ghost use Rattle.std.specs.Char.{digit_value, is_ascii_digit, is_ascii_hexdigit}
 ghost use Rattle.std.specs.List.{prefix_len};
 ghost use Rattle.js_tree.specs.Lexing as spec;
 
-use crate::characters::{char_at, is_name_part, rest};
-use js_tree::{Feature, InputElement, ReadRefused, TokenForm};
+use crate::characters::{char_at, rest};
+use js_tree::{Feature, InputElement, ReadRefused, TokenForm, is_name_part};
 use js_value::Place;
 
 /// One more than the greatest number, 2^53 - 1.

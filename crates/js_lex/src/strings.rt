@@ -1,6 +1,6 @@
 //! String literals (7.8.4).
 
-ghost use Rattle.std.specs.Prelude.{ℕ, true, [], ◌∷◌, IfOk, IfSome, ◌+◌, ◌≡◌, ◌<◌, ◌≤◌, ◌^◌, length, slice_index};
+ghost use Rattle.std.specs.Prelude.{[], ◌∷◌, IfOk, IfSome, ◌+◌, ◌≡◌, ◌<◌, ◌≤◌, ◌^◌, length, slice_index};
 ghost use Rattle.js_tree.specs.Lexing as spec;
 ghost use Rattle.js_tree.specs.Refusals.{Gives};
 

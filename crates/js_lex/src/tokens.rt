@@ -1,16 +1,16 @@
 //! All tokens of a text.
 
-ghost use Rattle.std.specs.Prelude.{IfOk, OnOk, ◌++◌, ◌≡◌, ◌<◌, ◌≤◌, ◌^◌, ◌+◌, false, length, take};
+ghost use Rattle.std.specs.Prelude.{IfOk, OnOk, ◌++◌, ◌≡◌, ◌<◌, ◌≤◌, ◌^◌, ◌+◌, false, length};
 ghost use Rattle.std.specs.Str.{chars};
 ghost use Rattle.js_tree.specs.Lexing as spec;
 ghost use Rattle.js_tree.specs.Refusals.{Gives};
 
-use crate::characters::{char_at, is_line_end, is_name_start, is_white_space, rest, width_between};
+use crate::characters::{char_at, is_line_end, is_white_space, rest, width_between};
 use crate::comments::{block_comment, line_comment};
 use crate::numbers::number;
 use crate::strings::string;
 use crate::words::{name, punctuator};
-use js_tree::{Feature, InputElement, ReadRefused, Token, TokenForm, Tokens};
+use js_tree::{Feature, InputElement, ReadRefused, Token, TokenForm, Tokens, is_name_start};
 use js_value::{NoMemory, Place, Seq};
 use std::alloc::Global;
 use std::str;

@@ -1,14 +1,15 @@
 //! Names, reserved words and punctuators.
 
-ghost use Rattle.std.specs.Prelude.{true, map, IfOk, IfSome, OnOk, ◌++◌, ◌≡◌, ◌<◌, ◌≤◌, ◌^◌, length, slice_index, Result, Ok, Err, if◌then◌else◌};
+ghost use Rattle.std.specs.Prelude.{true, map, IfOk, IfSome, OnOk, ◌++◌, ◌≡◌, ◌<◌, ◌≤◌, length, slice_index, Ok, Err, if◌then◌else◌};
 ghost use Rattle.std.specs.Char.Escape.{encode_utf16};
 ghost use Rattle.std.specs.List.{prefix_len};
 ghost use Rattle.js_tree.specs.Lexing as spec;
 ghost use Rattle.js_tree.specs.Refusals.{Gives, unsupported};
 
-use crate::characters::{begins_with, is_name_part, is_spelled};
+use crate::characters::{begins_with, is_spelled};
 use js_tree::{
     Feature, InputElement, KEYWORDS, Keyword, PUNCTUATORS, Punctuator, ReadRefused, TokenForm,
+    is_name_part,
 };
 use js_value::{NoMemory, Place, Text};
 use std::alloc::Global;

@@ -1,6 +1,6 @@
 -- A production that goes by its next token.
-use Rattle.std.proofs.Common.{◌≡◌, Bool, true, false, refl, ◌∙◌}
-use Rattle.std.specs.Prelude.{Option, Some, None, Result, Ok, Err, is_some}
+use Rattle.std.proofs.Common.{◌≡◌, Bool, true, false, refl}
+use Rattle.std.specs.Prelude.{Option, Some, None, is_some}
 use Rattle.js_tree.specs.declared.token.TokenForm.{TokenForm}
 use Rattle.js_grammar.specs.Rest.{Rest, Reading, next, of_first, passed}
 use Rattle.token_reader.specs.Reader.{taken, IsTaken}

@@ -1,6 +1,6 @@
 //! Expressions (11.3 to 11.14), from loose to tight.
 
-ghost use Rattle.std.specs.Prelude.{◌≡◌, ◌<◌, ◌≤◌, length, IfOk, IfSome};
+ghost use Rattle.std.specs.Prelude.{◌<◌, ◌≤◌, length, IfOk, IfSome};
 ghost use Rattle.js_grammar.specs.Expressions as spec;
 ghost use Rattle.js_grammar.specs.Primary as primary;
 ghost use Rattle.js_grammar.specs.Reading.{grammar};

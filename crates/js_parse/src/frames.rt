@@ -1,6 +1,6 @@
 //! What waits for an operand, as a stack: nothing is read by recursion that isn't counted as open.
 
-ghost use Rattle.std.specs.Prelude.{◌≡◌, ◌∷◌, [], OnOk, OnErr, MatchOption};
+ghost use Rattle.std.specs.Prelude.{◌≡◌, ◌∷◌, [], OnOk, MatchOption};
 ghost use Rattle.js_parse.specs.Frames.{callee_of, level_of, of_first};
 
 use js_tree::{Expr, Fields};

@@ -1,6 +1,6 @@
 //! Functions and source elements (13, 14).
 
-ghost use Rattle.std.specs.Prelude.{◌≡◌, ◌<◌, ◌≤◌, length, IfOk};
+ghost use Rattle.std.specs.Prelude.{◌<◌, ◌≤◌, length, IfOk};
 ghost use Rattle.js_grammar.specs.Functions as spec;
 ghost use Rattle.js_grammar.specs.Reading.{grammar};
 ghost use Rattle.js_grammar.specs.Rest.{repeat};

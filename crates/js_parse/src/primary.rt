@@ -1,6 +1,6 @@
 //! Primary expressions, members, `new` and calls (11.1, 11.2).
 
-ghost use Rattle.std.specs.Prelude.{◌≡◌, ◌<◌, ◌≤◌, length, IfOk};
+ghost use Rattle.std.specs.Prelude.{◌<◌, ◌≤◌, length, IfOk};
 ghost use Rattle.js_grammar.specs.Primary as spec;
 ghost use Rattle.js_grammar.specs.Reading.{grammar};
 ghost use Rattle.js_grammar.specs.Rest.{repeat};

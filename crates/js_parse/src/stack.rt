@@ -1,6 +1,6 @@
 //! Operands and operators (11.1 to 11.11), by a stack of what waits for an operand.
 
-ghost use Rattle.std.specs.Prelude.{◌≡◌, ◌<◌, ◌≤◌, ◌+◌, ◌*◌, ◌++◌, ◌∷◌, [], length, IfOk, IfSome};
+ghost use Rattle.std.specs.Prelude.{◌≡◌, ◌<◌, ◌≤◌, ◌+◌, ◌*◌, length, IfOk, IfSome};
 ghost use Rattle.js_grammar.specs.Expressions as expressions;
 ghost use Rattle.js_grammar.specs.Primary as primary;
 ghost use Rattle.js_grammar.specs.Reading.{grammar};

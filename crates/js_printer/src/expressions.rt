@@ -1,7 +1,6 @@
 //! Expressions (11). What writes a function is a parameter, so that trees and functions are two recursions.
 
-ghost use Rattle.std.specs.Prelude.{◌≡◌, ◌++◌, ◌∷◌, [], map, OnOk, true, false};
-ghost use Rattle.std.specs.Option.{option_map};
+ghost use Rattle.std.specs.Prelude.{◌≡◌, ◌++◌, OnOk, true, false};
 ghost use Rattle.script_text.specs.Expressions as spec;
 ghost use Rattle.token_sheets.specs.Sheets.{put_all};
 ghost use Rattle.script_text.specs.Pieces.{separated, behind_commas};

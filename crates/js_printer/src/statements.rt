@@ -1,12 +1,12 @@
 //! Statements (12) and the bodies of functions (13).
 
-ghost use Rattle.std.specs.Prelude.{Bool, List, codes, ◌≡◌, ◌++◌, ◌∷◌, [], map, OnOk, true, false};
+ghost use Rattle.std.specs.Prelude.{Bool, List, codes, ◌≡◌, [], OnOk, true, false};
 ghost use Rattle.std.specs.List.{flat_map};
 ghost use Rattle.js_value.specs.declared.place.FuncNo.{FuncNo as Number};
-ghost use Rattle.script_text.specs.Expressions.{expr, maybe_expr, name as name_pieces};
+ghost use Rattle.script_text.specs.Expressions.{expr, maybe_expr};
 ghost use Rattle.script_text.specs.Statements as spec;
 ghost use Rattle.token_sheets.specs.Sheets.{put_all};
-ghost use Rattle.script_text.specs.Pieces.{Piece, word, separated, behind_commas};
+ghost use Rattle.script_text.specs.Pieces.{Piece, word, separated};
 ghost use Rattle.script_text.specs.Printing.{bound_names, function_to};
 ghost use Rattle.js_printer.specs.Writes.{Writes};
 

@@ -8,7 +8,7 @@ use Rattle.js_tree.specs.declared.statement.Stmt.{Stmt}
 use Rattle.js_tree.specs.Mentions as M
 use Rattle.std.proofs.lemmas.Slice.Eq.{bytes_eq-Decides}
 use Rattle.js_tree.specs.Mentions.{Mention, Names, unbound, unbound_one, distinct, distinct_behind, hoisted_vars, vars_in}
-use Rattle.js_tree.specs.Simple.{is_among}
+use Rattle.js_tree.specs.Parts.{is_among}
 use Rattle.js_scope.specs.Hoisting.{add, add_all, in_stmts}
 
 with_one : (a b : Bool) → (a || (b || false)) ≡ (b || a)

@@ -8,7 +8,7 @@ use Rattle.std.specs.Str.{bytes_eq}
 use Rattle.std.proofs.lemmas.Bool.Decides.{same_from_decides}
 use Rattle.std.proofs.lemmas.Grind.{fold-append}
 use Rattle.std.proofs.lemmas.Slice.Eq.{bytes_eq-Decides}
-use Rattle.js_tree.specs.Simple.{is_among}
+use Rattle.js_tree.specs.Parts.{is_among}
 use Rattle.js_scope.proofs.Gathered.{among_one, or_assoc}
 use Rattle.js_scope.specs.declared.properties.Seen.{Seen}
 use Rattle.std.proofs.lemmas.List.{map_more}

@@ -21,7 +21,7 @@ use Rattle.js_tree.specs.declared.statement.StmtForm.TheFolds.{map-StmtForm, fol
 use Rattle.js_tree.specs.declared.statement.StmtForm.TheVariants as s
 use Rattle.js_tree.proofs.Folds.{fold-layer}
 use Rattle.js_tree.specs.Mentions as M
-use Rattle.js_tree.specs.Mentions.{Mention, Mentioned, FieldMentions, Property}
+use Rattle.js_tree.specs.Mentions.{Mention, Mentioned, FieldMentions}
 use Rattle.js_scope.specs.declared.walk.Walk.{Walk}
 use Rattle.js_scope.specs.Mentioning.{expression, declaration, in_form, in_field, in_fields, in_expr, in_exprs, in_maybe, in_stmt_form, in_case, in_catch, in_finally, in_handler, in_last, in_stmt, in_stmts}
 use Rattle.js_scope.specs.Properties.{property, property_in}

@@ -6,7 +6,7 @@ use Rattle.std.proofs.lemmas.Grind.{fold-append}
 use Rattle.js_tree.specs.Early.{jump_faults, mention_faults, early_fault, lesser}
 use Rattle.js_tree.specs.declared.statement.Script.{Script}
 use Rattle.js_tree.specs.Mentions as M
-use Rattle.js_tree.specs.Mentions.{Mention, Inside}
+use Rattle.js_tree.specs.Mentions.{Mention}
 use Rattle.js_scope.specs.Jumps.{with_faults}
 use Rattle.std.specs.List.{flat_map}
 use Rattle.js_scope.specs.declared.mention.Mention as D

@@ -6,7 +6,7 @@ use Rattle.js_tree.specs.declared.statement.Finally.{Finally, fold-Finally}
 use Rattle.js_tree.specs.declared.statement.Stmt.{Stmt}
 use Rattle.js_tree.specs.declared.statement.StmtForm.{StmtForm, fold-StmtForm}
 use Rattle.js_tree.specs.Mentions.{Names, joined, form_vars, vars_in, hoisted_functions, hoisted_vars}
-use Rattle.js_tree.specs.Simple.{is_among}
+use Rattle.js_tree.specs.Parts.{is_among}
 use Rattle.js_tree.specs.declared.statement.Func.{Func}
 use Rattle.js_tree.specs.declared.statement.Script.{Script}
 use Rattle.js_value.specs.declared.place.FuncNo.{FuncNo}

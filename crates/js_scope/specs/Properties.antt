@@ -6,7 +6,7 @@ use Rattle.js_tree.specs.declared.expression.Field.{Field, out-Field}
 use Rattle.js_tree.specs.declared.expression.ExprForm.TheOpen.{Field-F}
 use Rattle.js_tree.specs.Mentions as M
 use Rattle.js_tree.specs.Mentions.{Mention, Property, clash}
-use Rattle.js_tree.specs.Simple.{is_among}
+use Rattle.js_tree.specs.Parts.{is_among}
 use Rattle.js_scope.specs.Hoisting.{add}
 use Rattle.js_scope.specs.declared.properties.Seen.{Seen}
 use Rattle.js_scope.specs.declared.properties.Given.{Given}

@@ -1,6 +1,6 @@
 //! The free names of functions.
 
-ghost use Rattle.std.specs.Prelude.{◌≡◌, [], IfOk, OnOk};
+ghost use Rattle.std.specs.Prelude.{◌≡◌, IfOk, OnOk};
 ghost use Rattle.std.specs.List.{flat_map};
 ghost use Rattle.js_tree.specs.Mentions as tree;
 ghost use Rattle.js_scope.specs.Hoisting as hoisting;

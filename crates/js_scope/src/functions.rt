@@ -1,7 +1,6 @@
 //! What the functions of a script mention of names that they don't declare.
 
-ghost use Rattle.std.specs.Prelude.{◌≡◌, ◌+◌, ◌<◌, ◌++◌, [], ℕ, length, map, drop, get_or, IfOk, OnOk};
-ghost use Rattle.std.specs.List.{flat_map};
+ghost use Rattle.std.specs.Prelude.{◌≡◌, ◌+◌, ◌<◌, ◌++◌, length, map, drop, IfOk, OnOk};
 ghost use Rattle.js_tree.specs.declared.statement.Name.{Name};
 ghost use Rattle.js_tree.specs.Mentions as tree;
 ghost use Rattle.js_scope.specs.Functions as functions;

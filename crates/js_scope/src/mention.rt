@@ -2,7 +2,7 @@
 
 ghost use Rattle.std.specs.Prelude.{◌≡◌, ◌++◌, ◌∷◌, [], OnOk};
 ghost use Rattle.js_tree.specs.Mentions as tree;
-ghost use Rattle.js_tree.specs.Simple as simple;
+ghost use Rattle.js_tree.specs.Parts as parts;
 ghost use Rattle.js_scope.specs.Mentioning as spec;
 
 use crate::names::Names;
@@ -82,7 +82,7 @@ pub fn push_unbound<'a>(
 
 /// Whether a function's own name is this one.
 fn is_own(own: Option<&Text>, name: &Text) -> bool
-    ensures { result ≡ simple.is_among (spec.own_of own.entry) name.now }
+    ensures { result ≡ parts.is_among (spec.own_of own.entry) name.now }
 {
     match own {
         None => false,

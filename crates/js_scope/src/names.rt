@@ -1,7 +1,7 @@
 //! Names, each once.
 
 ghost use Rattle.std.specs.Prelude.{◌≡◌, [], ℕ, List, IfOk, OnOk};
-ghost use Rattle.js_tree.specs.Simple as simple;
+ghost use Rattle.js_tree.specs.Parts as parts;
 ghost use Rattle.js_scope.specs.Hoisting as spec;
 
 use indexmap::IndexSet;
@@ -34,7 +34,7 @@ impl Names {
 
     /// Whether a name is among these.
     pub fn has(&self, name: &Text) -> bool
-        ensures { result ≡ simple.is_among self.now name.now }
+        ensures { result ≡ parts.is_among self.now name.now }
     {
         self.set.contains(name)
     }
@@ -52,7 +52,7 @@ impl Names {
     /// These names as a set.
     #[tactic(auto, using(crate::proofs::Gathered::among_all))]
     pub fn of(alloc: Global, all: &[Text]) -> Result<Names, NoMemory>
-        ensures { IfOk result (λ names. (q : List ℕ) → simple.is_among names q ≡ simple.is_among all.now q) }
+        ensures { IfOk result (λ names. (q : List ℕ) → parts.is_among names q ≡ parts.is_among all.now q) }
     {
         let mut names = Names::new(alloc);
         for name in all {

@@ -1,5 +1,4 @@
 pub mod Folds
-pub mod Statements
 pub mod EarlyCases
 pub mod NameCases
 pub mod FlatCases

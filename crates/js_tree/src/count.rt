@@ -1,6 +1,6 @@
 //! How many statements and expressions a script has.
 
-ghost use Rattle.std.specs.Prelude.{◌≡◌, min, map, sum};
+ghost use Rattle.std.specs.Prelude.{◌≡◌, min};
 ghost use Rattle.js_tree.specs.Count as spec;
 
 use crate::{

@@ -1,6 +1,6 @@
 //! The two forms of a script: its inputs and its host calls.
 
-ghost use Rattle.std.specs.Prelude.{◌≡◌, min, map, sum};
+ghost use Rattle.std.specs.Prelude.{◌≡◌, min};
 ghost use Rattle.js_tree.specs.Early.{host_forms, is_closed};
 ghost use Rattle.js_tree.specs.Forms as spec;
 

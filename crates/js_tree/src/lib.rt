@@ -5,23 +5,23 @@ ghost use Rattle.js_tree.specs.EarlyCases.{EarlyCases};
 ghost use Rattle.js_tree.specs.FlatCases.{FlatCases};
 ghost use Rattle.js_tree.specs.NameCases.{NameCases};
 
+mod characters;
 mod count;
 mod expression;
 mod flat;
 mod forms;
 mod refusal;
-mod simple;
 mod statement;
 #[cfg(test)]
 mod tests;
 mod token;
 
+pub use characters::{is_name_part, is_name_start};
 pub use count::nodes;
 pub use expression::{Elements, Expr, ExprForm, Exprs, Field, Fields, LogicOp, StepOp};
 pub use flat::is_flat;
 pub use forms::{host_forms, is_closed};
 pub use refusal::{Feature, ReadRefused};
-pub use simple::{MOST_TERMS, SimpleToken, TAKEN_WORDS};
 pub use statement::{
     Case, Cases, Catch, Declarator, Declarators, Finally, ForStart, ForTarget, Func, Funcs, Name,
     Names, Script, Stmt, StmtForm, Stmts,

@@ -20,7 +20,7 @@ pub use operator::{BinaryOp, UnaryOp};
 pub use place::{FuncNo, Place};
 pub use primitive::{Kind, Primitive};
 pub use seq::Seq;
-pub use text::Text;
+pub use text::{Text, is_spelled};
 pub use why::Why;
 
 /// A list of bytes.

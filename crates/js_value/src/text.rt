@@ -1,8 +1,9 @@
 ghost use Rattle.std.proofs.Common.{rules};
-ghost use Rattle.std.specs.Prelude.{◌≡◌, ◌++◌, ◌<◌, ◌^◌, ℕ, [], length, nat_eq, slice_index, IfOk, OnOk};
+ghost use Rattle.std.specs.Prelude.{◌≡◌, ◌++◌, ◌<◌, ◌^◌, ℕ, length, nat_eq, slice_index, IfOk, OnOk};
 ghost use Rattle.std.specs.Cmp.Lexicographic.{pointwise};
 ghost use Rattle.std.specs.Cmp.Rules.{comparing, hashing};
 ghost use Rattle.std.specs.Hash as fed;
+ghost use Rattle.std.specs.Str.{bytes_eq};
 ghost use Rattle.js_value.specs.Texts as spec;
 
 use crate::{Bytes, NoMemory, Seq};
@@ -51,6 +52,18 @@ impl Hash for Text {
     }
 }
 
+/// Whether units are spelled so in ASCII.
+pub fn is_spelled(units: &[u16], word: &[u8]) -> bool
+    ensures text { result ≡ bytes_eq units.now word.now }
+    ensures word { result ≡ bytes_eq word.now units.now }
+{
+    match (units, word) {
+        ([u, units @ ..], [b, word @ ..]) => *u == u16::from(*b) && is_spelled(units, word),
+        ([], []) => true,
+        _ => false,
+    }
+}
+
 impl Text {
     /// The text of these units.
     pub fn from_units(alloc: Global, units: &Seq<u16>) -> Result<Text, NoMemory>
@@ -94,6 +107,14 @@ impl Text {
         ensures { result.now ≡ self.now }
     {
         self.units.as_slice()
+    }
+
+    /// Whether this text is spelled so in ASCII.
+    pub fn is_spelled(&self, word: &[u8]) -> bool
+        ensures text { result ≡ bytes_eq self.now word.now }
+        ensures word { result ≡ bytes_eq word.now self.now }
+    {
+        is_spelled(self.units.as_slice(), word)
     }
 
     /// How many units there are.

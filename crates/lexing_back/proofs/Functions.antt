@@ -14,7 +14,7 @@ use Rattle.js_grammar.specs.Readable as Q
 use Rattle.js_grammar.specs.Readable.{are_parts_readable}
 use Rattle.script_text.specs.Pieces.{Piece}
 use Rattle.script_text.specs.Statements as S
-use Rattle.script_text.specs.Statements.{parameter, parameters, own_name, binding, lines, is_empty, directive}
+use Rattle.script_text.specs.Statements.{parameter, parameters, own_name, binding, is_empty, directive}
 use Rattle.script_text.specs.Printing.{bound_names, found, function_to, script_pieces}
 use Rattle.lexing_back.proofs.Written.{Reads, Reads-nil}
 use Rattle.lexing_back.proofs.Spots.{Spot, Anything, Ended, Pointed, Begun, Fielded, Holds, Runs, joined, nothing, from, to}

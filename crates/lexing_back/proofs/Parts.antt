@@ -24,7 +24,7 @@ use Rattle.script_text.specs.declared.gap.Gap.{Gap}
 use Rattle.script_text.specs.declared.gap.Gap.TheVariants.{Tight, Loose}
 use Rattle.script_text.specs.Pieces.{Piece, Named, Quoted, word, separated, behind_commas}
 use Rattle.script_text.specs.Expressions as text
-use Rattle.script_text.specs.Expressions.{Printed, tokens, literal, key_before, is_ascii_name, is_ascii_start, is_ascii_part, are_ascii_parts, unary_operator, binary_level, logic_level, is_postfix, level, is_number, grouped, if_grouped, at, object, callee_of_new, value, element, last_comma, ends_in_elision, index, in_parentheses, branch, stepped, kind_text, two_literals, input, host_call_start, host_call, of_field, of_form}
+use Rattle.script_text.specs.Expressions.{Printed, tokens, literal, key_before, is_ascii_name, is_ascii_start, is_ascii_part, are_ascii_parts, unary_operator, binary_level, logic_level, is_postfix, level, is_number, grouped, if_grouped, at, object, callee_of_new, value, element, last_comma, ends_in_elision, index, in_parentheses, branch, stepped, kind_text, two_literals, input, host_call, of_field, of_form}
 use Rattle.lexing_back.proofs.Ascii.{is_ascii_text}
 use Rattle.lexing_back.proofs.Characters.{start_part}
 use Rattle.lexing_back.proofs.Names.{IsName, is_name-ascii, small}

@@ -18,7 +18,7 @@ use Rattle.js_grammar.specs.Readable as Q
 use Rattle.script_text.specs.Pieces.{Piece, word, separated}
 use Rattle.script_text.specs.Expressions.{expr, maybe_expr, printed}
 use Rattle.script_text.specs.Statements as S
-use Rattle.script_text.specs.Statements.{Shown, with_semicolon, with_brace, ending, line, lines, begin_braces, end_braces, in_braces, block, is_empty, directive, line_end_unless, else_word, none_or, in_switch, clauses, clause_start, clause, for_word, binding, catch_head}
+use Rattle.script_text.specs.Statements.{Shown, with_semicolon, line, lines, begin_braces, end_braces, in_braces, block, is_empty, directive, line_end_unless, else_word, none_or, in_switch, clause, for_word, binding, catch_head}
 use Rattle.lexing_back.proofs.Spots.{Spot, Anything, Ended, Pointed, Begun, Fielded, implies, Runs, joined, implies-self, nothing, from, to}
 use Rattle.lexing_back.proofs.Single as one
 use Rattle.lexing_back.proofs.Parts.{Each, FunctionsRun, at-runs, if_grouped-runs, ended-edge, commas-run}

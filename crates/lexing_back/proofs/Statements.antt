@@ -16,7 +16,7 @@ use Rattle.js_tree.specs.declared.statement.StmtForm.TheFolds.{map-StmtForm, map
 use Rattle.js_grammar.specs.ReadableWords.{is_identifier}
 use Rattle.js_grammar.specs.ReadableExpressions as R
 use Rattle.js_grammar.specs.Readable as Q
-use Rattle.js_grammar.specs.Readable.{ReadStmt, ReadCase, is_part, are_parts, are_clauses, or_absent}
+use Rattle.js_grammar.specs.Readable.{ReadStmt, ReadCase, is_part, are_parts, are_clauses}
 use Rattle.script_text.specs.Pieces.{Piece}
 use Rattle.script_text.specs.Statements as S
 use Rattle.script_text.specs.Statements.{Shown}

@@ -9,7 +9,7 @@ use Rattle.std.proofs.lemmas.Bool.{and_parts, and_from, eqb-true}
 use Rattle.std.proofs.lemmas.Str.{encodes-append}
 use Rattle.js_value.specs.Texts.{quoted}
 use Rattle.js_tree.specs.Lexing.{Lexed, with_front, width, scan, lex_from}
-use Rattle.js_tree.specs.SimpleTokens.{place}
+use Rattle.js_tree.specs.Refusals.{place}
 use Rattle.js_tree.specs.declared.token.InputElement.TheVariants as element
 use Rattle.js_tree.specs.declared.token.Token.{Token}
 use Rattle.js_tree.specs.declared.token.TokenForm.{TokenForm}

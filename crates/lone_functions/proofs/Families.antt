@@ -9,9 +9,6 @@ use Rattle.lone_functions.specs.Anew.{func, nameless}
 use Rattle.lone_functions.specs.Named.{in_stmts}
 use Rattle.lone_functions.proofs.Counted.{body_is}
 
-pub none_first : (fs : List Func) → with_inner 0 fs ≡ []
-none_first fs = refl
-
 -- as many as there are, or more
 pub enough : (n : ℕ) (fs : List Func) → length fs ≤ n → with_inner n fs ≡ fs
 enough zero [] h = refl

@@ -28,11 +28,10 @@ use Rattle.plain_heap.specs.Values.{Value, Prim, Object, ObjNo, ScopeNo, undefin
 use Rattle.plain_heap.specs.Heap.{Key, new_cell, new_scope, set_cell}
 use Rattle.plain_heap.specs.Methods.{value_field, length_key}
 use Rattle.js_machine.specs.Machine.Expressions as E
-use Rattle.js_machine.specs.Machine.Expressions.{Ev, Flow}
+use Rattle.js_machine.specs.Machine.Expressions.{Ev}
 use Rattle.js_machine.specs.Machine.Names.{Context, Reference, NameReference, PropertyReference, Nowhere}
 use Rattle.js_machine.specs.Machine.Numbers.{TypeError, ReferenceError, object_prototype, array_prototype}
 use Rattle.js_machine.specs.Machine.Objects as objects
-use Rattle.js_machine.specs.Machine.Objects.{Site}
 use Rattle.js_machine.specs.Machine.Operators as operators
 use Rattle.js_machine.specs.Machine.Trees.{Run, each}
 use Rattle.plain_heap.specs.Heap.{Plain, Array}

@@ -16,11 +16,11 @@ use Rattle.js_value.specs.declared.why.Why.{Why}
 use Rattle.js_value.specs.declared.why.Why.TheVariants.{ObjectToPrimitive, AbsentBuiltin, PrimitiveProperty, PrimitiveThis}
 use Rattle.plain_heap.specs.Values.{Value, Prim, Object, Absent, Unary, Binary, ObjNo, ScopeNo, text}
 use Rattle.plain_heap.specs.Heap.{Key, Class, Plain, ObjectState, is_array, is_function, new_object, object_at, set_object, add_object, resolve}
-use Rattle.plain_heap.specs.Methods.{Descriptor, data_fields, checked_key, own_property, Got, GotValue, CallGetter, Putting, Refuse, Define, CallSetter, Defining, Defined, Rejected, BadLength, IfSame, array_index, length_key}
+use Rattle.plain_heap.specs.Methods.{Descriptor, data_fields, checked_key, Got, GotValue, CallGetter, Putting, Refuse, Define, CallSetter, Defining, Defined, Rejected, BadLength, IfSame, array_index, length_key}
 use Rattle.plain_heap.specs.Methods as methods
 use Rattle.js_machine.specs.Machine.Numbers.{ErrorKind, TypeError, RangeError, ReferenceError, error_prototype, global}
 use Rattle.js_machine.specs.Machine.Names as names
-use Rattle.js_machine.specs.Machine.Names.{Context, Binding, Reference, InCell, OnGlobal, Nowhere, NameReference, PropertyReference}
+use Rattle.js_machine.specs.Machine.Names.{Context, Reference, InCell, OnGlobal, Nowhere, NameReference, PropertyReference}
 use Rattle.js_machine.specs.Machine.Objects as objects
 use Rattle.js_machine.specs.Machine.Objects.{Site}
 use Rattle.js_machine.specs.Machine.Operators as operators

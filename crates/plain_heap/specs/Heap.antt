@@ -102,9 +102,6 @@ pub record Heap : Type 0 where
   pub cells : List Value
   pub scopes : List Scope
 
-abbrev pub empty_heap : Heap
-empty_heap = record { objects = []; cells = []; scopes = [] }
-
 abbrev pub object_at : Heap → ObjNo → Option ObjectState
 object_at h o = slice_get h.objects o
 

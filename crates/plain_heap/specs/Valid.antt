@@ -3,7 +3,7 @@ use Rattle.std.specs.Prelude.{ℕ, zero, suc, nat_lt, ◌&&◌, Bool, true, fals
 use Rattle.std.specs.List.{list_all, list_any}
 use Rattle.std.specs.Option.{option_map}
 use Rattle.js_value.specs.Conversions.{is_same_text}
-use Rattle.plain_heap.specs.Values.{Value, Prim, Object, Absent, Unary, Binary, ObjNo, CellNo, ScopeNo}
+use Rattle.plain_heap.specs.Values.{Value, Object, Absent, Unary, Binary, ObjNo, CellNo, ScopeNo}
 use Rattle.plain_heap.specs.Heap.{Key, Property, Properties, Data, Accessor, Class, Array, Function, ObjectState, Scope, Heap, object_at, is_function}
 use Rattle.plain_heap.specs.Methods.{array_index, length_key, length_of, or_value, own_property}
 

@@ -7,7 +7,7 @@ use Rattle.std.specs.Map.{lookup as entry_of, keys_of}
 use Rattle.std.proofs.lemmas.Bool.{and_parts, and_from}
 use Rattle.std.proofs.lemmas.Option.{get_or_from_slice_get, slice_get_within}
 use Rattle.std.proofs.lemmas.List.Sums.{AllPass-from_list_all}
-use Rattle.js_tree.specs.SimpleTokens.{is_simple_name}
+use Rattle.simple_scripts.specs.SimpleNames.{is_simple_name}
 use Rattle.simple_runs.specs.Readable.{is_plain_value, is_readable, is_readable_variable}
 use Rattle.std.specs.Str.{bytes_eq}
 use Rattle.indexmap.specs.IndexMap.{insert_entry}

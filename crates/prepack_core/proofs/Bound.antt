@@ -5,7 +5,7 @@ use Rattle.std.specs.List.{list_all}
 use Rattle.std.specs.Str.{bytes_eq}
 use Rattle.std.proofs.lemmas.Slice.Eq.{bytes_eq-Decides}
 use Rattle.js_value.specs.declared.primitive.Primitive.TheVariants.{Undefined}
-use Rattle.js_tree.specs.Simple.{is_among}
+use Rattle.js_tree.specs.Parts.{is_among}
 use Rattle.js_value.specs.declared.primitive.Primitive.{Primitive}
 use Rattle.simple_runs.specs.Events.{Heap, lookup, put, put_unless, declare}
 use Rattle.prepack_core.specs.Evaluates.{is_bound, are_bound, KeepsBound, declared_after}

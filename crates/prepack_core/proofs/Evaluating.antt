@@ -12,15 +12,15 @@ use Rattle.js_tree.specs.declared.expression.ExprForm.{ExprForm}
 use Rattle.js_tree.specs.declared.expression.ExprForm.TheVariants as form
 use Rattle.js_tree.specs.declared.expression.ExprForm.TheOpen.{ExprForm-F}
 use Rattle.js_tree.specs.Count.{in_expr, in_form, in_maybe, in_declarators, in_stmt, of_form, of_field, of_expr}
-use Rattle.js_tree.proofs.Folds.{fold-of_expr, fold-Literal, fold-Name, fold-Unary, fold-Binary}
-use Rattle.js_tree.proofs.Statements.{in_stmt-simple}
-use Rattle.js_tree.specs.Simple.{declarators_in}
-use Rattle.js_tree.specs.SimpleScripts.{is_simple_form, is_simple_statement}
+use Rattle.js_tree.proofs.Folds.{fold-of_expr, fold-Name, fold-Unary, fold-Binary}
+use Rattle.prepack_core.proofs.Counted.{in_stmt-simple}
+use Rattle.js_tree.specs.Parts.{declarators_in}
+use Rattle.simple_scripts.specs.SimpleScripts.{is_simple_form, is_simple_statement}
 use Rattle.js_tree.specs.declared.statement.Declarator.{Declarator}
 use Rattle.js_tree.specs.declared.statement.Stmt.{Stmt}
 use Rattle.js_tree.specs.declared.statement.StmtForm.{out-StmtForm}
 use Rattle.js_tree.specs.declared.statement.StmtForm.TheOpen.{StmtForm-F}
-use Rattle.simple_runs.specs.Events.{Heap, Tree, Step, Run, ◌>>=◌, step, give, lookup, put, change, or_no_rule}
+use Rattle.simple_runs.specs.Events.{Heap, Tree, Step, Run, ◌>>=◌, step, lookup, put, change, or_no_rule}
 use Rattle.simple_runs.specs.Simple.{evaluation, minus_rule, add_rule, subtract_rule, name_rule, negation, arithmetic, form_rule, expr_rule, declarator_rule, declarators_rule, statement_rule, statement}
 use Rattle.simple_runs.specs.Runs.{walk}
 use Rattle.prepack_core.specs.declared.value.Value.{Value}
@@ -72,9 +72,6 @@ Answers = Run Primitive
 
 run_of_expr : (e : Expr) → evaluation e ≡ step e.at (form_evaluation e.form e.at)
 run_of_expr e = fold-of_expr (Place → Answers) (Unit {0}) Answers form_rule (λ f. tt) expr_rule e
-
-pub run_of_literal : (value : Primitive) (at : Place) → form_evaluation (form.Literal value) at ≡ give value
-run_of_literal value at = ap (λ (r : Place → Answers). r at) (fold-Literal (Place → Answers) (Unit {0}) Answers form_rule (λ f. tt) expr_rule value)
 
 run_of_name : (name : List ℕ) (at : Place) → form_evaluation (form.Name name) at ≡ name_rule name
 run_of_name name at = ap (λ (r : Place → Answers). r at) (fold-Name (Place → Answers) (Unit {0}) Answers form_rule (λ f. tt) expr_rule name)

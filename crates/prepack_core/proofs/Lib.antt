@@ -9,4 +9,4 @@ pub mod Turns
 pub mod Scripts
 pub mod Listed
 pub mod Promising
-pub mod Given
+pub mod Counted

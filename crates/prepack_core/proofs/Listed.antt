@@ -9,7 +9,7 @@ use Rattle.std.proofs.lemmas.Option.{get_or_from_slice_get, slice_get_within}
 use Rattle.std.proofs.lemmas.Bool.{and_parts}
 use Rattle.std.proofs.lemmas.Bool.Decides.{nat_tests}
 use Rattle.js_value.specs.declared.primitive.Primitive.{Primitive}
-use Rattle.js_tree.specs.SimpleTokens.{is_simple_name, is_name_start, is_name_part, is_taken}
+use Rattle.simple_scripts.specs.SimpleNames.{is_simple_name, is_name_start, is_name_part, is_taken}
 use Rattle.simple_runs.specs.Readable.{listed, variable_text}
 
 abbrev Variable : Type 0

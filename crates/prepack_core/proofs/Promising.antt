@@ -11,11 +11,11 @@ use Rattle.js_tree.specs.declared.refusal.ReadRefused.TheVariants as refused
 use Rattle.js_tree.specs.declared.refusal.ReadRefused.TheVariants.{Unsupported}
 use Rattle.js_tree.specs.declared.statement.Script.{Script}
 use Rattle.js_tree.specs.Count.{nodes}
-use Rattle.js_tree.specs.SimpleTokens.{place}
-use Rattle.js_tree.specs.SimpleScripts.{is_simple}
+use Rattle.js_tree.specs.Refusals.{place}
+use Rattle.simple_scripts.specs.SimpleScripts.{is_simple}
 use Rattle.script_reader.specs.Reads.{reads}
-use Rattle.js_tree.specs.Residual.{snapshot}
-use Rattle.js_tree.specs.Text as simple_text
+use Rattle.simple_scripts.specs.Snapshot.{snapshot}
+use Rattle.simple_scripts.specs.Text as simple_text
 use Rattle.plain_heap.specs.Heap.{Heap, Key}
 use Rattle.plain_heap.specs.Values.{ObjNo}
 use Rattle.js_machine.specs.Machine.Choices.{OpenRun, OpenEnded, Stopped, Leaves, EndsOrWants, open_run}

@@ -1,42 +1,20 @@
 -- The run of a whole simple script.
-use Rattle.std.proofs.Common.{◌≡◌, ℕ, ◌+◌, ◌-◌, ◌<◌, ◌≤◌, Bool, true, List, [], ◌∷◌, ◌++◌, length, take, get_or, refl, ap, sym, ◌∙◌, arith, append-nil}
+use Rattle.std.proofs.Common.{◌≡◌, ℕ, ◌+◌, ◌-◌, ◌≤◌, Bool, true, List, [], refl, ap, sym, ◌∙◌, arith}
 use Rattle.std.specs.Prelude.{Ok, Err, not, false, ◌&&◌}
-use Rattle.std.specs.List.{list_all, flat_map}
-use Rattle.std.proofs.lemmas.List.{take_more}
-use Rattle.std.proofs.lemmas.List.Sums.{fold-append}
-use Rattle.std.proofs.lemmas.List.Concat.{flat_map-append}
+use Rattle.std.specs.List.{list_all}
 use Rattle.js_tree.specs.Count.{in_stmts, nodes}
-use Rattle.js_tree.specs.Simple.{declarators_in, declarators_of, declared_names, read_names, reads_declared}
-use Rattle.js_tree.specs.SimpleScripts.{is_simple, is_simple_statement, has_functions}
-use Rattle.js_tree.specs.declared.statement.Declarator.{Declarator}
+use Rattle.js_tree.specs.Parts.{has_functions}
+use Rattle.simple_scripts.specs.Simple.{declared_names, read_names, reads_declared}
+use Rattle.simple_scripts.specs.SimpleScripts.{is_simple, is_simple_statement}
 use Rattle.js_tree.specs.declared.statement.Stmt.{Stmt}
-use Rattle.js_tree.specs.declared.statement.StmtForm.{out-StmtForm}
 use Rattle.js_tree.specs.declared.statement.Script.{Script}
-use Rattle.simple_runs.specs.Events.{Heap, Tree, End, declare}
+use Rattle.simple_runs.specs.Events.{Heap, Tree, End}
 use Rattle.simple_runs.specs.Simple.{in_turn, statement, declared, script_tree}
 use Rattle.simple_runs.specs.Runs.{walk, plain}
 use Rattle.prepack_core.specs.declared.evaluate.Stop.{Stop}
 use Rattle.prepack_core.specs.declared.evaluate.Stop.TheVariants as stop
-use Rattle.prepack_core.specs.Evaluates.{Gives, RunsTo, Evaluates, declared_after, are_bound}
+use Rattle.prepack_core.specs.Evaluates.{Gives, RunsTo, Evaluates, are_bound}
 use Rattle.prepack_core.proofs.Bound.{all_declared_bound}
-
-declarators_more : (body : List Stmt) (i : ℕ) (s : Stmt) → i < length body → s ≡ get_or body i s → declarators_of (take (i + 1) body) ≡ declarators_of (take i body) ++ declarators_in (out-StmtForm s.form)
-declarators_more body i s below is =
-    ap declarators_of (take_more body i s below ∙ ap (λ t. take i body ++ t ∷ []) (sym is))
-    ∙ flat_map-append (λ (t : Stmt). declarators_in (out-StmtForm t.form)) (take i body) (s ∷ [])
-    ∙ ap (λ es. declarators_of (take i body) ++ es) (append-nil (declarators_in (out-StmtForm s.form)))
-
-abbrev names_of : List Declarator → List (List ℕ)
-names_of ds = flat_map (λ (d : Declarator). d.name ∷ []) ds
-
--- the names of one more statement
-pub declared_more : (body : List Stmt) (i : ℕ) (s : Stmt) (ds : List Declarator) (heap : Heap) → i < length body → s ≡ get_or body i s → ds ≡ declarators_in (out-StmtForm s.form)
-    → declared_after (declared_after heap (declared_names (take i body))) (names_of ds) ≡ declared_after heap (declared_names (take (i + 1) body))
-declared_more body i s ds heap below is same =
-    sym (fold-append (λ h name. declare name h) heap (declared_names (take i body)) (names_of ds))
-    ∙ ap (declared_after heap)
-    (ap (λ es. declared_names (take i body) ++ names_of es) same
-    ∙ sym (ap names_of (declarators_more body i s below is) ∙ flat_map-append (λ (d : Declarator). d.name ∷ []) (declarators_of (take i body)) (declarators_in (out-StmtForm s.form))))
 
 -- the parts of a simple script
 pub simple_body : (s : Script) → is_simple s ≡ true → list_all is_simple_statement s.body ≡ true

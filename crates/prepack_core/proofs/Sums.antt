@@ -11,8 +11,8 @@ use Rattle.js_tree.specs.declared.expression.Expr.{Expr}
 use Rattle.js_tree.specs.declared.expression.ExprForm.{ExprForm}
 use Rattle.js_tree.specs.declared.expression.ExprForm.TheVariants as form
 use Rattle.js_tree.specs.declared.expression.ExprForm.TheOpen.{ExprForm-F}
-use Rattle.js_tree.specs.Simple.{names_in, names_in_form}
-use Rattle.js_tree.specs.SimpleScripts.{Sum, NoSum, LiteralAlone, Terms, joined, sum_form, sum_in}
+use Rattle.simple_scripts.specs.Simple.{names_in, names_in_form}
+use Rattle.simple_scripts.specs.SimpleScripts.{Sum, NoSum, LiteralAlone, Terms, joined, sum_form, sum_in}
 use Rattle.js_tree.proofs.Folds.{fold-Binary, fold-Unary}
 use Rattle.prepack_core.specs.Evaluates.{is_sum, is_additive, form_sum, form_names}
 

@@ -8,11 +8,11 @@ use Rattle.js_value.specs.declared.place.Place.{Place}
 use Rattle.js_value.specs.declared.primitive.Primitive.{Primitive}
 use Rattle.js_value.specs.declared.why.Why.{Why}
 use Rattle.js_tree.specs.declared.expression.ExprForm.{ExprForm, fold-ExprForm}
-use Rattle.js_tree.specs.SimpleScripts.{Sum, NoSum, sum_form}
+use Rattle.simple_scripts.specs.SimpleScripts.{Sum, NoSum, sum_form}
 use Rattle.simple_runs.specs.Events.{Heap, Tree, Run, lookup, declare}
 use Rattle.simple_runs.specs.Simple.{form_rule, expr_rule}
 use Rattle.simple_runs.specs.Runs.{Ended, Left, walk, plain}
-use Rattle.js_tree.specs.Simple.{names_in_form, names_in_init}
+use Rattle.simple_scripts.specs.Simple.{names_in_form, names_in_init}
 use Rattle.js_value.specs.declared.why.Why.TheVariants.{NotANumber}
 use Rattle.prepack_core.specs.declared.value.Number.{Number}
 use Rattle.prepack_core.specs.declared.value.Value.{Value}

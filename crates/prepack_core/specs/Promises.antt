@@ -12,9 +12,9 @@ use Rattle.js_tree.specs.declared.refusal.ReadRefused.TheVariants.{Syntax, Unsup
 use Rattle.js_tree.specs.Count.{nodes}
 use Rattle.js_tree.specs.Flat.{is_flat}
 use Rattle.js_tree.specs.Mentions.{Names, hoisted_vars, hoisted_functions, names_of}
-use Rattle.js_tree.specs.SimpleScripts.{is_simple}
-use Rattle.js_tree.specs.SimpleTokens.{place}
-use Rattle.js_tree.specs.Residual.{snapshot}
+use Rattle.simple_scripts.specs.SimpleScripts.{is_simple}
+use Rattle.js_tree.specs.Refusals.{place}
+use Rattle.simple_scripts.specs.Snapshot.{snapshot}
 use Rattle.plain_heap.specs.Heap.{Heap}
 use Rattle.plain_heap.specs.Values.{Prim}
 use Rattle.js_machine.specs.Machine.Choices.{Stopped, Leaves, open_run, IsWhole, EndsWithin, EndsOrWants}

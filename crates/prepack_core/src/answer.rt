@@ -10,8 +10,9 @@ use crate::residual::residual_text;
 use js_tree::{Feature, ReadRefused};
 use js_value::{NoMemory, Place};
 use residual_form::small_form_law;
-use script_reader::{few_nodes_law, is_simple, read, residual_law};
+use script_reader::{few_nodes_law, read, residual_law};
 use simple_runs::{simple_listing_law, simple_run_law, simple_text_law, snapshot_law};
+use simple_scripts::is_simple;
 use std::alloc::Global;
 
 /// At most this many parts of a source are open at once, and no tree of it is higher.

@@ -3,8 +3,9 @@
 ghost use Rattle.std.specs.Prelude.{◌≡◌, [], ◌∷◌, IsTrue, IfOk, OnOk};
 ghost use Rattle.std.specs.List.{list_all, flat_map};
 ghost use Rattle.js_tree.specs.Count as count;
-ghost use Rattle.js_tree.specs.Simple.{names_in, names_in_init, declarators_in, declared_names};
-ghost use Rattle.js_tree.specs.SimpleScripts.{sum_in, is_simple_declarator, is_simple_statement, is_simple};
+ghost use Rattle.simple_scripts.specs.Simple.{names_in, names_in_init, declared_names};
+ghost use Rattle.js_tree.specs.Parts.{declarators_in};
+ghost use Rattle.simple_scripts.specs.SimpleScripts.{sum_in, is_simple_declarator, is_simple_statement, is_simple};
 ghost use Rattle.js_tree.specs.declared.statement.StmtForm.{out-StmtForm};
 ghost use Rattle.simple_runs.specs.Events.{Heap};
 ghost use Rattle.simple_runs.specs.Simple.{evaluation, negation, arithmetic, declarator_rule, declarators_rule, statement as run_of_statement, declared};

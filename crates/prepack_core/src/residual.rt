@@ -4,7 +4,7 @@ ghost use Rattle.std.specs.Prelude.{◌≡◌, ◌==◌, ◌+◌, ◌<◌, ◌++
 ghost use Rattle.std.specs.List.{IsDistinct};
 ghost use Rattle.std.specs.Map.{keys_of};
 ghost use Rattle.std.specs.Str.{bytes_eq};
-ghost use Rattle.js_tree.specs.SimpleTokens.{is_simple_name};
+ghost use Rattle.simple_scripts.specs.SimpleNames.{is_simple_name};
 ghost use Rattle.simple_runs.specs.Readable as spec;
 ghost use Rattle.prepack_core.specs.Values.{primitive_of};
 

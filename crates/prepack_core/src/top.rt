@@ -1,4 +1,4 @@
-ghost use Rattle.std.specs.Prelude.{◌≡◌, ◌≢◌, ◌↔◌, ◌⊎◌, ◌+◌, ◌<◌, ◌≤◌, [], None, IsTrue, IsSome, IfOk, IfErr, map, length, string_bytes};
+ghost use Rattle.std.specs.Prelude.{◌≡◌, ◌≢◌, ◌↔◌, ◌⊎◌, ◌+◌, ◌<◌, ◌≤◌, None, IsTrue, IsSome, IfOk, IfErr, map, length, string_bytes};
 ghost use Rattle.prepack_core.specs.Io.{Rose, before_left, IsEmptied};
 ghost use Rattle.prepack_core.specs.Words.{command};
 ghost use Rattle.prepack_core.specs.Promises.{IsResidualOf, IsNoScript, IsUnsupported, IsNested};

@@ -3,7 +3,7 @@ ghost use Rattle.std.specs.List.{IsDistinct};
 ghost use Rattle.std.specs.Map.{keys_of};
 ghost use Rattle.std.specs.Str.{bytes_eq};
 ghost use Rattle.std.specs.Option.{option_map};
-ghost use Rattle.js_tree.specs.SimpleTokens.{is_simple_name};
+ghost use Rattle.simple_scripts.specs.SimpleNames.{is_simple_name};
 ghost use Rattle.simple_runs.specs.Events as machine;
 ghost use Rattle.simple_runs.specs.Readable.{is_readable};
 ghost use Rattle.prepack_core.specs.Values.{primitive_of};
@@ -27,7 +27,7 @@ impl Model for Variables {
 
     ghost use Rattle.std.specs.Prelude.{IsTrue};
     ghost use Rattle.std.specs.List.{list_all};
-    ghost use Rattle.js_tree.specs.SimpleTokens.{is_simple_name};
+    ghost use Rattle.simple_scripts.specs.SimpleNames.{is_simple_name};
     ghost use Rattle.prepack_core.specs.Values.{shown};
 
     ghost view = { λ v. shown v.map.entries };

@@ -8,7 +8,7 @@ use Rattle.js_value.specs.declared.place.FuncNo.{FuncNo}
 use Rattle.js_value.specs.declared.place.Place.{Place}
 use Rattle.js_tree.specs.Mentions as M
 use Rattle.js_tree.specs.Mentions.{Mention, Mentioned, FieldMentions, Names, Property, joined, all_of, unbound, unbound_one, owned_one, repeated, clash}
-use Rattle.js_tree.specs.Simple.{is_among}
+use Rattle.js_tree.specs.Parts.{is_among}
 use Rattle.js_tree.specs.declared.expression.Expr.{Expr, roll-Expr}
 use Rattle.js_tree.specs.declared.expression.Field.{Field, roll-Field, fold-Field}
 use Rattle.js_tree.specs.declared.expression.ExprForm.{ExprForm, roll-ExprForm, fold-ExprForm}

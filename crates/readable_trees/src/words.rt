@@ -3,25 +3,12 @@
 ghost use Rattle.std.specs.Prelude.{◌≡◌, ◌≤◌, not, ◌∷◌, true, map, length, is_none, Some};
 ghost use Rattle.std.specs.Char.Utf16.{is_high_surrogate, is_low_surrogate, lone_unit_char, surrogate_pair_char, utf16_chars};
 ghost use Rattle.std.specs.List.{list_all};
-ghost use Rattle.std.specs.Str.{bytes_eq};
 ghost use Rattle.js_tree.specs.Lexing as lexing;
 ghost use Rattle.js_grammar.specs.Marks as marks;
 ghost use Rattle.js_grammar.specs.ReadableWords as spec;
 
-use js_tree::{KEYWORDS, Keyword};
-use js_value::{GREATEST_NUMBER, Primitive, Text};
-
-/// Whether units are spelled so in ASCII.
-fn is_spelled(units: &[u16], word: &[u8]) -> bool
-    ensures text { result ≡ bytes_eq units.now word.now }
-    ensures row { result ≡ bytes_eq word.now units.now }
-{
-    match (units, word) {
-        ([u, units @ ..], [b, word @ ..]) => *u == u16::from(*b) && is_spelled(units, word),
-        ([], []) => true,
-        _ => false,
-    }
-}
+use js_tree::{KEYWORDS, Keyword, is_name_part, is_name_start};
+use js_value::{GREATEST_NUMBER, Primitive, Text, is_spelled};
 
 fn lookup(mut table: &[(&[u8], Keyword)], word: &[u16]) -> Option<Keyword>
     ensures { result ≡ lexing.lookup (map (λ row. (row.0.now, row.1)) table.entry.now) word.now }
@@ -102,20 +89,6 @@ fn first_char(first: u16, behind: &[u16]) -> (Option<char>, &[u16])
     }
 }
 
-#[tactic(auto, unfolding(js_tree::specs::Lexing::is_name_start))]
-fn is_name_start(c: char) -> bool
-    ensures { result ≡ lexing.is_name_start c }
-{
-    unicode_ident::is_xid_start(c) || c == '$' || c == '_'
-}
-
-#[tactic(auto, unfolding(js_tree::specs::Lexing::is_name_part))]
-fn is_name_part(c: char) -> bool
-    ensures { result ≡ lexing.is_name_part c }
-{
-    unicode_ident::is_xid_continue(c) || c == '$' || c == '_' || c == '\u{200C}' || c == '\u{200D}'
-}
-
 fn may_begin(c: Option<char>) -> bool
     ensures { result ≡ spec.passes lexing.is_name_start c }
 {
@@ -164,7 +137,7 @@ pub fn is_readable_text(text: &Text) -> bool
     ensures { result ≡ spec.is_readable_text text.now }
 {
     text.fits();
-    !is_spelled(text.as_slice(), b"__proto__")
+    !text.is_spelled(b"__proto__")
 }
 
 /// Whether a text is a name or a reserved word (7.6).

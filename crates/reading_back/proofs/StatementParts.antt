@@ -11,7 +11,6 @@ use Rattle.js_tree.specs.declared.statement.ForStart.TheVariants as start
 use Rattle.js_tree.specs.declared.statement.ForTarget.{ForTarget}
 use Rattle.js_tree.specs.declared.statement.ForTarget.TheVariants as target
 use Rattle.js_grammar.specs.FunctionOrder as order
-use Rattle.js_grammar.specs.FunctionOrder.{Numbers}
 use Rattle.js_grammar.specs.Readable as readable
 use Rattle.js_grammar.specs.ReadableExpressions as readable_expression
 use Rattle.script_text.specs.Expressions as text

@@ -7,8 +7,8 @@ use Rattle.js_tree.specs.declared.statement.Declarator.{Declarator}
 use Rattle.js_tree.specs.declared.statement.Func.{Func}
 use Rattle.js_tree.specs.declared.statement.Script.{Script}
 use Rattle.js_tree.specs.declared.statement.Stmt.{Stmt}
-use Rattle.js_tree.specs.Residual as small
-use Rattle.js_tree.specs.SimpleScripts.{has_functions}
+use Rattle.residual_form.specs.Small as small
+use Rattle.js_tree.specs.Parts.{has_functions}
 use Rattle.residual_form.specs.Form.{is_residual, is_fresh, is_code, temporaries, wrapped_temporaries}
 use Rattle.residual_form.specs.Names.{is_identifier}
 use Rattle.residual_form.specs.Creations.{creations, of_functions}

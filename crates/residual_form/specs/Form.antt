@@ -12,8 +12,8 @@ use Rattle.js_tree.specs.declared.statement.Script.{Script}
 use Rattle.js_tree.specs.declared.statement.Stmt.{Stmt}
 use Rattle.js_tree.specs.declared.statement.StmtForm.{out-StmtForm}
 use Rattle.js_tree.specs.declared.statement.StmtForm.TheOpen.{StmtForm-F}
-use Rattle.js_tree.specs.Residual.{is_variables, is_residual_body}
-use Rattle.js_tree.specs.Simple.{declarators_in}
+use Rattle.residual_form.specs.Small.{is_variables, is_residual_body}
+use Rattle.js_tree.specs.Parts.{declarators_in}
 use Rattle.residual_form.specs.declared.act.Act.TheVariants as act
 use Rattle.residual_form.specs.Acts.{is_done}
 use Rattle.residual_form.specs.Bodies.{Body}

@@ -16,7 +16,7 @@ use Rattle.js_tree.specs.declared.statement.Stmt.{Stmt}
 use Rattle.js_tree.specs.declared.statement.StmtForm.{StmtForm}
 use Rattle.js_tree.specs.declared.statement.StmtForm.TheVariants as s
 use Rattle.js_tree.specs.Refusals.{place}
-use Rattle.js_tree.specs.Trees.{name, no, declared, func, script}
+use Rattle.js_tree.specs.Trees.{name, no, func, script}
 use Rattle.js_tree.specs.Trees as tree
 use Rattle.residual_form.specs.Bodies.{Body}
 use Rattle.residual_form.specs.Statements.{is_statement, are_in_order}

@@ -8,4 +8,5 @@ pub mod Form
 pub mod Creations
 pub mod FormCases
 pub mod WholeCases
+pub mod Small
 pub mod SmallForm

@@ -1,7 +1,7 @@
 -- The form that residuals without a wrapper have.
 use Rattle.std.specs.Prelude.{◌≡◌, true, []}
 use Rattle.js_tree.specs.declared.statement.Script.{Script}
-use Rattle.js_tree.specs.Residual as small
+use Rattle.residual_form.specs.Small as small
 use Rattle.residual_form.specs.Form.{is_residual, is_fresh, temporaries}
 use Rattle.residual_form.specs.Creations.{creations}
 

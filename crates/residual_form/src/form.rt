@@ -4,8 +4,8 @@ ghost use Rattle.std.specs.Prelude.{◌≡◌};
 ghost use Rattle.std.specs.List.{list_all};
 ghost use Rattle.js_tree.specs.declared.expression.ExprForm.{out-ExprForm};
 ghost use Rattle.js_tree.specs.declared.statement.StmtForm.{out-StmtForm};
-ghost use Rattle.js_tree.specs.Residual as small;
-ghost use Rattle.js_tree.specs.Simple as simple;
+ghost use Rattle.residual_form.specs.Small as small;
+ghost use Rattle.js_tree.specs.Parts as parts;
 ghost use Rattle.residual_form.specs.Bodies.{seen};
 ghost use Rattle.residual_form.specs.Form as spec;
 
@@ -14,7 +14,6 @@ use crate::body::Body;
 use crate::paths::is_this;
 use crate::sought::{is_captured, is_identifier};
 use crate::values::is_literal;
-use crate::words::is_spelled;
 use js_tree::{Declarator, Expr, ExprForm, Func, Script, Stmt, StmtForm};
 use js_value::{Primitive, Text, UnaryOp};
 
@@ -35,7 +34,7 @@ fn behind_var(all: &[Stmt]) -> &[Stmt]
 
 /// The declarators of a `var` statement.
 fn declarators_of(s: &Stmt) -> &[Declarator]
-    ensures { result.now ≡ simple.declarators_in (out-StmtForm s.now.form) }
+    ensures { result.now ≡ parts.declarators_in (out-StmtForm s.now.form) }
 {
     match &*s.form {
         StmtForm::Var(all) => all.as_slice(),
@@ -105,7 +104,7 @@ fn is_call_of_first(e: &Expr) -> bool
     ensures { result ≡ spec.is_call_of_first (out-ExprForm e.now.form) }
 {
     match &*e.form {
-        ExprForm::Member(f, key) => is_first(f) && is_spelled(key, b"call"),
+        ExprForm::Member(f, key) => is_first(f) && key.is_spelled(b"call"),
         _ => false,
     }
 }
@@ -154,7 +153,7 @@ fn is_primitive(e: &Expr) -> bool
     match &*e.form {
         ExprForm::Literal(value) => is_literal(value),
         ExprForm::Unary(UnaryOp::Minus, a) => is_number(a),
-        ExprForm::Name(name) => is_spelled(name, b"undefined"),
+        ExprForm::Name(name) => name.is_spelled(b"undefined"),
         _ => false,
     }
 }

@@ -5,7 +5,6 @@ ghost use Rattle.std.specs.List.{list_any};
 ghost use Rattle.js_tree.specs.declared.expression.ExprForm.{out-ExprForm};
 ghost use Rattle.residual_form.specs.Paths as spec;
 
-use crate::words::is_spelled;
 use js_tree::{Expr, ExprForm};
 
 /// Of each object that is there from the start (15), in the order of their numbers and without the global object: the names
@@ -77,7 +76,7 @@ pub fn leads(e: &Expr, path: &[&[u8]]) -> bool
         return is_this(e);
     };
     match &*e.form {
-        ExprForm::Member(object, key) => is_spelled(key, name) && leads(object, path),
+        ExprForm::Member(object, key) => key.is_spelled(name) && leads(object, path),
         _ => false,
     }
 }

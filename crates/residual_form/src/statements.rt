@@ -10,7 +10,6 @@ ghost use Rattle.residual_form.specs.Statements as spec;
 use crate::body::Body;
 use crate::paths::{DEFINE_PROPERTY, PREVENT_EXTENSIONS, is_path};
 use crate::values::is_literal;
-use crate::words::is_spelled;
 use js_tree::{Expr, ExprForm, Stmt, StmtForm};
 use js_value::{BinaryOp, Primitive, Text, UnaryOp};
 
@@ -37,7 +36,7 @@ fn is_key(e: &Expr) -> bool
     ensures { result ≡ spec.is_key (out-ExprForm e.now.form) }
 {
     match &*e.form {
-        ExprForm::Literal(Primitive::Text(units)) => !is_spelled(units, b"__proto__"),
+        ExprForm::Literal(Primitive::Text(units)) => !units.is_spelled(b"__proto__"),
         _ => false,
     }
 }
@@ -59,7 +58,7 @@ impl Body<'_> {
             ExprForm::Binary(op, a, b) => {
                 is_binary(*op) && self.is_operand(a) && self.is_operand(b)
             }
-            ExprForm::Member(a, key) => self.is_operand(a) && is_spelled(key, b"prototype"),
+            ExprForm::Member(a, key) => self.is_operand(a) && key.is_spelled(b"prototype"),
             _ => false,
         }
     }

@@ -7,7 +7,6 @@ ghost use Rattle.residual_form.specs.Values as spec;
 
 use crate::body::Body;
 use crate::paths::CREATE;
-use crate::words::is_spelled;
 use js_tree::{Expr, ExprForm, Field};
 use js_value::{FuncNo, Primitive, Text, UnaryOp};
 
@@ -16,7 +15,7 @@ pub fn is_literal(value: &Primitive) -> bool
     ensures { result ≡ spec.is_literal value.now }
 {
     match value {
-        Primitive::Text(units) => !is_spelled(units, b"__proto__"),
+        Primitive::Text(units) => !units.is_spelled(b"__proto__"),
         _ => true,
     }
 }
@@ -34,7 +33,7 @@ impl Body<'_> {
     fn is_operand_name(&self, name: &Text) -> bool
         ensures { result ≡ spec.is_operand_name (seen self.now) name.now }
     {
-        self.is_temporary(name) || is_spelled(name, b"undefined")
+        self.is_temporary(name) || name.is_spelled(b"undefined")
     }
 
     /// Whether an expression is an operand.

@@ -4,14 +4,14 @@ use Rattle.std.specs.Prelude.{nat_lt, ◌==◌}
 use Rattle.std.specs.Char.{is_ascii_digit, len_utf8}
 use Rattle.std.specs.Char.Escape.{encode_utf16}
 use Rattle.std.specs.List.{list_all}
-use Rattle.std.specs.Str.{chars, is_utf8, IsAscii}
+use Rattle.std.specs.Str.{chars, IsAscii}
 use Rattle.std.proofs.lemmas.Bool.{and_parts}
 use Rattle.std.proofs.lemmas.Bool.Decides.{nat_tests}
 use Rattle.std.proofs.lemmas.List.Sums.{sum_by-cons}
-use Rattle.std.proofs.lemmas.Str.{chars-IsAscii, is_utf8-from_IsUtf8, IsUtf8-from_ascii, len_utf8_ascii}
+use Rattle.std.proofs.lemmas.Str.{chars-IsAscii, len_utf8_ascii}
 use Rattle.std.proofs.lemmas.Str.Ascii.{IsAscii-nil, IsAscii-cons}
 use Rattle.unicode_ident.proofs.IdentLemmas.{is_xid_start-ascii, is_xid_continue-ascii}
-use Rattle.js_tree.specs.SimpleTokens as simple
+use Rattle.simple_scripts.specs.SimpleNames as simple
 use Rattle.js_tree.specs.Lexing.{is_name_start, is_name_part, is_white_space, is_line_end, units, width}
 
 -- each character is ASCII
@@ -24,9 +24,6 @@ below c h = grind (arith, nat_tests)
 pub IsAscii-all : (text : List ℕ) → all_ascii text ≡ true → IsAscii text
 IsAscii-all [] h = IsAscii-nil
 IsAscii-all (c ∷ text) h = let p = and_parts (nat_lt c 128) (all_ascii text) h in IsAscii-cons c text (below c p.0) (IsAscii-all text p.1)
-
-pub utf8-ascii : (text : List ℕ) → all_ascii text ≡ true → is_utf8 text ≡ true
-utf8-ascii text h = is_utf8-from_IsUtf8 text (IsUtf8-from_ascii text (IsAscii-all text h))
 
 pub chars-ascii : (text : List ℕ) → all_ascii text ≡ true → chars text ≡ text
 chars-ascii text h = chars-IsAscii text (IsAscii-all text h)

@@ -14,7 +14,7 @@ use Rattle.js_tree.specs.declared.expression.StepOp.{StepOp}
 use Rattle.js_tree.specs.declared.expression.LogicOp.{LogicOp}
 use Rattle.js_tree.specs.declared.token.TokenForm.{TokenForm}
 use Rattle.js_tree.specs.declared.refusal.Feature.TheVariants as feature
-use Rattle.js_tree.specs.SimpleScripts.{NoSum, sum_in}
+use Rattle.simple_scripts.specs.SimpleScripts.{NoSum, sum_in}
 use Rattle.js_grammar.specs.Rest.{Reading, ◌>>=◌, ◌>>◌, give, part, on_later_line, begins_line, finish, next, expect, repeat}
 use Rattle.js_grammar.specs.Marks
 use Rattle.js_grammar.specs.Functions.{Grammar, function_expression}

@@ -29,9 +29,9 @@ use Rattle.js_tree.specs.declared.token.TokenForm.{TokenForm}
 use Rattle.js_tree.specs.declared.token.TokenForm.TheVariants as form
 use Rattle.js_tree.specs.declared.token.Token.{Token}
 use Rattle.js_tree.specs.Count.{in_expr, in_maybe, in_declarators, in_stmt}
-use Rattle.js_tree.specs.SimpleScripts.{is_simple_init, is_simple_declarator, is_simple_form, is_simple_statement, is_short, sum_in}
+use Rattle.simple_scripts.specs.SimpleScripts.{is_simple_init, is_simple_declarator, is_simple_form, is_simple_statement, is_short, sum_in}
 use Rattle.simple_runs.proofs.Forms.{in_stmt-var}
-use Rattle.js_grammar.specs.Rest.{Rest, Reading, ◌>>=◌, ◌>>◌, give, here, at_end, sees_second, of_first, part, finish_stmt, next, expect, repeat, is_empty, place_of}
+use Rattle.js_grammar.specs.Rest.{Reading, ◌>>=◌, ◌>>◌, give, sees_second, part, finish_stmt, expect, repeat, place_of}
 use Rattle.js_grammar.specs.Rest as R
 use Rattle.js_grammar.specs.Marks
 use Rattle.js_grammar.specs.Functions as F
@@ -66,9 +66,6 @@ init_costs w v u x le c short = omega (arith, le, c.1 (short_sum (sum_in x) shor
 names_few : {w : ℕ} → Ends w declared_name (λ _ v. v + 1 ≤ w)
 unfolding declared_name
 names_few {w = w} = look here_still (λ at. bind {f = λ text. R.unless at (option_or (Marks.barred text) (Marks.form_name text)) (give (record { at = at; text = text }))} (λ _ v. v + 1 ≤ w) (expects Marks.identifier) (λ text v le. bars at (option_or (Marks.barred text) (Marks.form_name text)) (gives (record { at = at; text = text }) le)))
-
-in_init : Declarator → ℕ
-in_init d = in_maybe d.init
 
 one_more : (ds : List Declarator) (d : Declarator) → in_declarators (ds ++ (d ∷ [])) ≡ in_declarators ds + in_maybe d.init
 one_more ds d = sum-map (λ (d : Declarator). in_maybe d.init) (ds ++ (d ∷ [])) ∙ sum_by_push (λ (d : Declarator). in_maybe d.init) ds d ∙ ap (λ n. n + in_maybe d.init) (sym (sum-map (λ (d : Declarator). in_maybe d.init) ds))

@@ -15,8 +15,9 @@ use Rattle.js_tree.specs.declared.statement.Stmt.{Stmt}
 use Rattle.js_tree.specs.declared.token.Token.{Token}
 use Rattle.js_tree.specs.declared.token.Tokens.{Tokens}
 use Rattle.js_tree.specs.Count.{in_stmt, in_stmts, in_func, nodes}
-use Rattle.js_tree.specs.Simple.{reads_declared}
-use Rattle.js_tree.specs.SimpleScripts.{is_simple_statement, has_functions, is_simple}
+use Rattle.simple_scripts.specs.Simple.{reads_declared}
+use Rattle.simple_scripts.specs.SimpleScripts.{is_simple_statement, is_simple}
+use Rattle.js_tree.specs.Parts.{has_functions}
 use Rattle.js_grammar.specs.Rest.{Rest, Reading, at_end, is_empty}
 use Rattle.js_grammar.specs.Marks
 use Rattle.js_grammar.specs.Functions as F

@@ -9,6 +9,3 @@ pub mod FewInExpressions
 pub mod FewInStatements
 pub mod FewInTexts
 pub mod FewInTokens
-pub mod NameSets
-pub mod Folds
-pub mod Counting

@@ -5,9 +5,9 @@ use Rattle.std.specs.Str.{is_utf8, chars}
 use Rattle.js_value.specs.declared.primitive.Primitive.{Primitive}
 use Rattle.js_tree.specs.Early.{early_fault}
 use Rattle.js_tree.specs.Lexing.{lexed}
-use Rattle.js_tree.specs.Residual.{snapshot}
-use Rattle.js_tree.specs.SimpleTokens.{place}
-use Rattle.js_tree.specs.Text.{script_text}
+use Rattle.simple_scripts.specs.Snapshot.{snapshot}
+use Rattle.js_tree.specs.Refusals.{place}
+use Rattle.simple_scripts.specs.Text.{script_text}
 use Rattle.js_grammar.specs.Checked.{unless_fault, checked, read_checked}
 use Rattle.js_grammar.specs.Functions.{elements}
 use Rattle.js_grammar.specs.Rest.{repeat}

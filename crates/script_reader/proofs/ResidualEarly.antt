@@ -13,8 +13,8 @@ use Rattle.js_tree.specs.declared.statement.Stmt.{fold-Stmt}
 use Rattle.js_tree.specs.declared.statement.StmtForm.TheOpen.{StmtForm-F, Case-F, Catch-F, Finally-F, Stmt-F}
 use Rattle.js_tree.specs.declared.statement.StmtForm.TheVariants.{Var, outs-Var}
 use Rattle.js_tree.specs.declared.statement.StmtForm.TheFolds.{fold_out-StmtForm, fold_out-Stmt}
-use Rattle.js_tree.specs.SimpleTokens.{place}
-use Rattle.js_tree.specs.Simple.{literal, minus, var_at}
+use Rattle.js_tree.specs.Refusals.{place}
+use Rattle.simple_scripts.specs.Simple.{literal, minus, var_at}
 use Rattle.js_tree.specs.Early.{At, Places, places_in, breaks, continues, returns, early_fault}
 use Rattle.js_tree.specs.Mentions.{Mention, Mentioned, FieldMentions, maybe_mentions, declarator_mentions, body_mentions, mentions}
 use Rattle.js_grammar.specs.Heights.{body_of, or_true, parts_fit, stmt_parts_fit, is_within, is_stmt_within}

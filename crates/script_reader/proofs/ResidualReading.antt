@@ -15,16 +15,15 @@ use Rattle.js_tree.specs.declared.token.Punctuator.{Punctuator}
 use Rattle.js_tree.specs.declared.token.Punctuator.TheVariants as mark
 use Rattle.js_tree.specs.declared.token.TokenForm.TheVariants as form
 use Rattle.js_tree.specs.declared.token.Token.{Token}
-use Rattle.js_tree.specs.SimpleTokens.{place}
-use Rattle.js_tree.specs.Simple.{literal, minus}
+use Rattle.js_tree.specs.Refusals.{place}
+use Rattle.simple_scripts.specs.Simple.{literal, minus, declarator_of, var_at}
 use Rattle.js_grammar.specs.Rest.{Rest, next, repeat, enter, leave, part, finish, finish_stmt}
 use Rattle.js_grammar.specs.Functions.{declared_name, elements}
 use Rattle.js_grammar.specs.Primary.{expression_by, new_or_none, enclosed_or_new, left_hand_side}
 use Rattle.js_grammar.specs.Expressions.{postfix, unary, multiplicative, additive, shift, relational, equality, bit_and, bit_xor, bit_or, logical_and, logical_or, conditional, assignment}
 use Rattle.js_grammar.specs.Ends.{ends}
 use Rattle.js_grammar.specs.Reading.{productions, grammar, script_of}
-use Rattle.js_tree.specs.SimpleTokens.{is_taken, is_simple_name}
-use Rattle.js_tree.specs.Simple.{declarator_of, var_at}
+use Rattle.simple_scripts.specs.SimpleNames.{is_taken, is_simple_name}
 use Rattle.js_tree.specs.declared.statement.Name.{Name}
 use Rattle.js_grammar.specs.Rest.{behind}
 use Rattle.js_grammar.specs.Marks.{barred, form_name}
@@ -32,8 +31,8 @@ use Rattle.js_grammar.proofs.Laws.{tied, repeated}
 use Rattle.js_grammar.specs.Rest.{Reading, at_end}
 use Rattle.js_grammar.specs.Declarators.{initialiser, more_declarators, declarators_behind}
 use Rattle.js_grammar.specs.Statements.{var_behind, statement, element}
-use Rattle.js_tree.specs.Residual.{variable}
-use Rattle.js_tree.specs.Text.{declarator_text}
+use Rattle.simple_scripts.specs.Snapshot.{variable}
+use Rattle.simple_scripts.specs.Text.{declarator_text}
 use Rattle.simple_runs.specs.Readable.{constant_at, variable_at, variables_at, place_behind, placed, is_plain_value, is_readable_variable, is_readable}
 use Rattle.std.specs.Option.{option_or}
 use Rattle.std.specs.Str.{bytes_eq}

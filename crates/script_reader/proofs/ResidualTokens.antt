@@ -17,9 +17,9 @@ use Rattle.std.proofs.lemmas.Slice.Eq.{bytes_eq-Decides}
 use Rattle.unicode_ident.proofs.Computing.{unicode_ident}
 use Rattle.unicode_ident.proofs.IdentLemmas.{is_xid_continue-ascii}
 use Rattle.js_value.specs.Numbers.{is_safe, greatest, greatest_magnitude}
-use Rattle.js_tree.specs.Residual.{variable, snapshot}
-use Rattle.js_tree.specs.Text.{behind_sign, declarator_text, declarators_text, script_text}
-use Rattle.js_tree.specs.Refusals.{unsupported, syntax}
+use Rattle.simple_scripts.specs.Snapshot.{variable, snapshot}
+use Rattle.simple_scripts.specs.Text.{behind_sign, declarator_text, declarators_text, script_text}
+use Rattle.js_tree.specs.Refusals.{unsupported, syntax, place}
 use Rattle.js_tree.specs.declared.refusal.Feature.TheVariants as feature
 use Rattle.js_tree.specs.declared.token.Keyword.{Keyword}
 use Rattle.js_tree.specs.declared.token.Keyword.TheVariants as keyword
@@ -30,9 +30,9 @@ use Rattle.js_tree.specs.declared.token.InputElement.{InputElement}
 use Rattle.js_tree.specs.declared.token.InputElement.TheVariants as element
 use Rattle.js_tree.specs.declared.token.Token.{Token}
 use Rattle.js_tree.specs.declared.token.TheConstants.{KEYWORDS}
-use Rattle.js_tree.specs.declared.simple.TheConstants.{TAKEN_WORDS}
-use Rattle.js_tree.specs.SimpleTokens as simple
-use Rattle.js_tree.specs.SimpleTokens.{place, is_taken, is_simple_name}
+use Rattle.simple_scripts.specs.declared.taken.TheConstants.{TAKEN_WORDS}
+use Rattle.simple_scripts.specs.SimpleNames as simple
+use Rattle.simple_scripts.specs.SimpleNames.{is_taken, is_simple_name}
 use Rattle.js_tree.specs.Lexing.{is_name_start, is_name_part, width, units, is_proto, token, word, lookup, reserved_word, name_or_reserved, name, number, whole, value, begins_hexadecimal, begins_exponent, decimal as decimal_at, longest_punctuator, scan_token, scan, Lexed, with_front, kept, line_after, going_on, lex_from, lexed}
 use Rattle.js_lex.proofs.Going.{front_front, lexed_text}
 use Rattle.simple_runs.proofs.Literals.{IsLiteral, IsLiteral-decimal, safe_negsuc, behind_sign-literal}

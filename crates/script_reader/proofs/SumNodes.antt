@@ -18,10 +18,10 @@ use Rattle.js_tree.specs.declared.expression.ExprForm.TheVariants as e
 use Rattle.js_tree.specs.declared.token.Keyword.TheVariants as keyword
 use Rattle.js_tree.specs.declared.token.TokenForm.{TokenForm}
 use Rattle.js_tree.specs.declared.token.TokenForm.TheVariants as form
-use Rattle.js_tree.specs.SimpleTokens.{greatest_literal, is_simple_name}
+use Rattle.simple_scripts.specs.SimpleNames.{greatest_literal, is_simple_name}
 use Rattle.js_grammar.specs.Marks.{literal}
 use Rattle.js_tree.specs.Count.{of_form, of_field, of_expr, in_expr}
-use Rattle.js_tree.specs.SimpleScripts.{Sum, NoSum, LiteralAlone, Terms, joined, sum_form, sum_in, is_short}
+use Rattle.simple_scripts.specs.SimpleScripts.{Sum, NoSum, LiteralAlone, Terms, joined, sum_form, sum_in, is_short}
 use Rattle.js_tree.proofs.Folds.{fold-layer, fold-of_expr}
 
 abbrev pub is_sum : Sum → Bool
@@ -120,9 +120,6 @@ nodes_name at name = nodes_of_form at (e.Name name) (ExprForm-F.Name name) (e.ou
 
 pub nodes_literal : (at : Place) (v : Primitive) → in_expr (node at (e.Literal v)) ≡ 1
 nodes_literal at v = nodes_of_form at (e.Literal v) (ExprForm-F.Literal v) (e.outs-Literal v)
-
-pub nodes_this : (at : Place) → in_expr (node at e.This) ≡ 1
-nodes_this at = nodes_of_form at e.This ExprForm-F.This e.outs-This
 
 -- ---- what reading promises
 

@@ -1,22 +1,19 @@
-//! From the bytes of a text to its script, and which scripts are simple.
+//! From the bytes of a text to its script.
 #![tactic(auto)]
 
-mod names;
 mod script;
-mod sums;
-mod words;
 
 ghost use Rattle.std.specs.Prelude.{◌≡◌, ◌*◌, ◌≤◌, ℕ, List, Ok, IsTrue, length};
 ghost use Rattle.js_value.specs.declared.primitive.Primitive.{Primitive};
 ghost use Rattle.js_tree.specs.declared.statement.Script.{Script};
 ghost use Rattle.js_tree.specs.Count.{nodes};
-ghost use Rattle.js_tree.specs.Residual.{snapshot};
-ghost use Rattle.js_tree.specs.SimpleScripts as simple;
-ghost use Rattle.js_tree.specs.Text.{script_text};
+ghost use Rattle.simple_scripts.specs.Snapshot.{snapshot};
+ghost use Rattle.simple_scripts.specs.SimpleScripts as simple;
+ghost use Rattle.simple_scripts.specs.Text.{script_text};
 ghost use Rattle.simple_runs.specs.Readable.{is_readable, placed};
 ghost use Rattle.script_reader.specs.Reads.{reads};
 
-pub use script::{is_simple, read};
+pub use script::read;
 
 /// The residual of readable variables reads back: a law, with nothing to run.
 pub fn residual_law()

@@ -7,7 +7,7 @@ use Rattle.std.specs.Str.{bytes_eq}
 use Rattle.js_value.specs.declared.place.FuncNo.{FuncNo}
 use Rattle.js_value.specs.Texts.{quoted}
 use Rattle.js_tree.specs.Mentions.{Names}
-use Rattle.js_tree.specs.Simple.{is_among}
+use Rattle.js_tree.specs.Parts.{is_among}
 use Rattle.js_tree.specs.declared.statement.Script.{Script}
 use Rattle.script_text.specs.Pieces.{Piece, Token, LineEnd, Open, Close, Reference, Named, Quoted, Number, Bind, Release, word, utf8}
 use Rattle.script_text.specs.Printing.{function_to}

@@ -4,8 +4,8 @@ use Rattle.std.specs.Prelude.{if◌then◌else◌, Option, None}
 use Rattle.std.specs.List.{list_all}
 use Rattle.std.proofs.lemmas.Bool.{and_parts}
 use Rattle.js_tree.specs.Mentions.{distinct_behind}
-use Rattle.js_tree.specs.Simple.{is_among}
-use Rattle.js_tree.specs.SimpleTokens.{is_simple_name}
+use Rattle.js_tree.specs.Parts.{is_among}
+use Rattle.simple_scripts.specs.SimpleNames.{is_simple_name}
 use Rattle.plain_heap.specs.Heap.{Heap, Properties, ObjectState, lookup}
 use Rattle.plain_heap.specs.Values.{Value, ObjNo}
 use Rattle.simple_runs.specs.Events as simple

@@ -11,7 +11,7 @@ use Rattle.js_tree.specs.declared.statement.Declarator.{Declarator}
 use Rattle.js_tree.specs.declared.statement.StmtForm.TheVariants.{Var, outs-Var}
 use Rattle.js_tree.specs.declared.statement.StmtForm.TheFolds.{fold_out-StmtForm, fold_out-Stmt}
 use Rattle.js_tree.specs.Count.{of_stmt_form, of_case, of_catch, of_finally, of_stmt, in_stmt, in_declarators}
-use Rattle.js_tree.specs.Simple.{var_at, literal, minus}
+use Rattle.simple_scripts.specs.Simple.{var_at, literal, minus}
 
 module _ (A B C : Type 0) (f : ExprForm-F A B C → A) (g : Field-F A B C → B) (h : Expr-F A B C → C) where
   -- a fold of a literal

@@ -7,7 +7,7 @@ use Rattle.std.proofs.lemmas.Slice.Eq.{bytes_eq-Decides}
 use Rattle.js_value.specs.Conversions.{is_same_text}
 use Rattle.js_value.specs.declared.primitive.Primitive.{Primitive}
 use Rattle.js_value.specs.declared.primitive.Primitive.TheVariants as primitive
-use Rattle.js_tree.specs.SimpleTokens.{is_simple_name, is_taken}
+use Rattle.simple_scripts.specs.SimpleNames.{is_simple_name, is_taken}
 use Rattle.plain_heap.specs.Heap.{Heap, Properties, ObjectState, Plain, lookup, put_at}
 use Rattle.plain_heap.specs.Heap as H
 use Rattle.plain_heap.specs.Methods as M

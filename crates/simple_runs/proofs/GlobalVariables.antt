@@ -9,7 +9,7 @@ use Rattle.std.proofs.lemmas.Bool.{and_parts, both_ways}
 use Rattle.std.proofs.lemmas.Slice.Eq.{bytes_eq-Decides}
 use Rattle.js_value.specs.Conversions.{is_same_text}
 use Rattle.js_value.specs.declared.primitive.Primitive.{Primitive}
-use Rattle.js_tree.specs.SimpleTokens.{is_simple_name, is_taken}
+use Rattle.simple_scripts.specs.SimpleNames.{is_simple_name, is_taken}
 use Rattle.plain_heap.specs.Heap.{Key, Property, Properties, ObjectState, data_property, object_at, lookup, put_at}
 use Rattle.plain_heap.specs.Methods.{or_value}
 use Rattle.plain_heap.specs.Values.{Prim}

@@ -1,6 +1,6 @@
 -- The digits of literals of the numbers of the profile.
 use Rattle.std.proofs.Common.{◌≡◌, ℕ, zero, suc, negsuc, ◌<◌, ◌≤◌, ◌^◌, Bool, true, false, List, [], ◌∷◌, length, refl, ap, arith}
-use Rattle.std.specs.Prelude.{slice_index, ◌==◌, ◌||◌, nat_lt, int_le, neg_ℤ}
+use Rattle.std.specs.Prelude.{slice_index, ◌==◌, ◌&&◌, ◌||◌, nat_lt, int_le, neg_ℤ}
 use Rattle.std.specs.Char.{is_ascii_digit}
 use Rattle.std.specs.Fmt.{decimal}
 use Rattle.std.specs.List.{list_all}
@@ -10,8 +10,11 @@ use Rattle.std.proofs.lemmas.Bool.Decides.{nat_tests}
 use Rattle.std.proofs.lemmas.Fmt.{decimal_is_IsNumeral, decimal_digit, first_decimal}
 use Rattle.std.proofs.lemmas.Str.Parse.{digit_from_value}
 use Rattle.js_value.specs.Numbers.{is_safe, greatest}
-use Rattle.js_tree.specs.Text.{behind_sign}
-use Rattle.js_tree.specs.SimpleTokens.{greatest_literal, has_leading_zero}
+use Rattle.simple_scripts.specs.Text.{behind_sign}
+use Rattle.simple_scripts.specs.SimpleNames.{greatest_literal}
+
+abbrev pub has_leading_zero : List ℕ → Bool
+has_leading_zero digits = slice_index digits 0 == 48 && nat_lt 1 (length digits)
 
 -- the digits of a literal
 pub record IsLiteral (n : ℕ) (ds : List ℕ) : Type 0 where

@@ -15,9 +15,10 @@ use Rattle.js_tree.specs.Early.{is_closed}
 use Rattle.js_tree.specs.Forms as forms
 use Rattle.js_tree.specs.Mentions as names
 use Rattle.js_tree.specs.Mentions.{Mention, Mentioned, FieldMentions, joined, unbound, mentions}
-use Rattle.js_tree.specs.Simple.{reads_declared}
-use Rattle.js_tree.specs.SimpleScripts.{Sum, sum_form, sum_in, is_simple, is_simple_declarator, is_simple_form, is_simple_init, is_simple_statement, has_functions}
-use Rattle.js_tree.specs.SimpleTokens.{is_simple_name}
+use Rattle.simple_scripts.specs.Simple.{reads_declared}
+use Rattle.simple_scripts.specs.SimpleScripts.{Sum, sum_form, sum_in, is_simple, is_simple_declarator, is_simple_form, is_simple_init, is_simple_statement}
+use Rattle.js_tree.specs.Parts.{has_functions}
+use Rattle.simple_scripts.specs.SimpleNames.{is_simple_name}
 use Rattle.js_tree.specs.declared.expression.Expr.{Expr}
 use Rattle.js_tree.specs.declared.expression.ExprForm.{out-ExprForm}
 use Rattle.js_tree.specs.declared.expression.ExprForm.TheOpen.{ExprForm-F}

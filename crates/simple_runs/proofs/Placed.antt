@@ -10,10 +10,11 @@ use Rattle.js_value.specs.declared.place.Place.{Place}
 use Rattle.js_value.specs.declared.primitive.Primitive.{Primitive}
 use Rattle.js_value.specs.declared.primitive.Primitive.TheVariants as primitive
 use Rattle.js_tree.specs.Count.{nodes}
-use Rattle.js_tree.specs.Residual.{constant, variable}
-use Rattle.js_tree.specs.Simple.{literal, minus, reads_declared}
-use Rattle.js_tree.specs.SimpleScripts.{Sum, NoSum, LiteralAlone, sum_form, sum_in, is_simple_init, is_simple_declarator, is_simple}
-use Rattle.js_tree.specs.SimpleTokens.{greatest_literal, place, is_simple_name}
+use Rattle.simple_scripts.specs.Snapshot.{constant, variable}
+use Rattle.simple_scripts.specs.Simple.{literal, minus, reads_declared}
+use Rattle.simple_scripts.specs.SimpleScripts.{Sum, NoSum, LiteralAlone, sum_form, sum_in, is_simple_init, is_simple_declarator, is_simple}
+use Rattle.simple_scripts.specs.SimpleNames.{greatest_literal, is_simple_name}
+use Rattle.js_tree.specs.Refusals.{place}
 use Rattle.js_tree.specs.declared.statement.StmtForm.TheVariants.{outs-Var}
 use Rattle.js_machine.specs.Machine.Walks.{World, Ended, Normally}
 use Rattle.js_machine.specs.Machine.Walks as whole

@@ -8,9 +8,10 @@ use Rattle.js_value.specs.declared.operator.UnaryOp.TheVariants as unary
 use Rattle.js_tree.specs.declared.expression.ExprForm.TheVariants.{outs-Literal, outs-Unary}
 use Rattle.js_tree.specs.declared.statement.Declarator.{Declarator}
 use Rattle.js_tree.specs.declared.statement.StmtForm.TheVariants.{outs-Var}
-use Rattle.js_tree.specs.SimpleTokens.{place}
-use Rattle.js_tree.specs.Simple.{literal, var_at, names_in_form, names_in, names_in_init, declarators_in, declarators_of, declared_names, read_names, is_among, reads_declared}
-use Rattle.js_tree.specs.Residual.{is_number, is_primitive, is_constant, is_variables, is_residual}
+use Rattle.js_tree.specs.Refusals.{place}
+use Rattle.simple_scripts.specs.Simple.{literal, var_at, names_in_form, names_in, names_in_init, declarators_of, declared_names, read_names, reads_declared}
+use Rattle.js_tree.specs.Parts.{declarators_in, is_among}
+use Rattle.residual_form.specs.Small.{is_number, is_primitive, is_constant, is_variables, is_residual}
 use Rattle.simple_runs.proofs.Forms.{fold-literal, fold-minus}
 use Rattle.simple_runs.specs.Readable.{constant_at, variables_at, place_behind, placed}
 

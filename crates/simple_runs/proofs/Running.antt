@@ -18,8 +18,8 @@ use Rattle.js_value.specs.declared.why.Why.TheVariants.{MinusZero, Unsafe}
 use Rattle.js_tree.specs.declared.expression.Expr.{Expr}
 use Rattle.js_tree.specs.declared.statement.Declarator.{Declarator}
 use Rattle.js_tree.specs.declared.statement.StmtForm.TheVariants.{outs-Var}
-use Rattle.js_tree.specs.SimpleTokens.{place}
-use Rattle.js_tree.specs.Simple.{literal, minus, var_at, script_of, declared_names}
+use Rattle.js_tree.specs.Refusals.{place}
+use Rattle.simple_scripts.specs.Simple.{literal, minus, var_at, script_of, declared_names}
 use Rattle.js_tree.specs.Count.{of_form, of_field, of_expr, in_expr, in_maybe, in_declarators, nodes}
 use Rattle.simple_runs.specs.Events.{Heap, Tree, Step, End, Run, give, step, lookup, put, put_unless, declare, or_leave}
 use Rattle.simple_runs.specs.Simple.{minus_rule, form_rule, expr_rule, evaluation, declarator_rule, in_turn, declarators_rule, statement_rule, statement, declared, script_tree}

@@ -18,9 +18,9 @@ use Rattle.js_value.specs.declared.operator.BinaryOp.TheVariants as binary
 use Rattle.js_value.specs.declared.operator.UnaryOp.{UnaryOp}
 use Rattle.js_value.specs.declared.operator.UnaryOp.TheVariants as unary
 use Rattle.js_tree.specs.Count.{in_expr}
-use Rattle.js_tree.specs.SimpleScripts.{Sum, NoSum, LiteralAlone, Terms, joined, negative, sum_form, sum_in}
-use Rattle.js_tree.specs.SimpleTokens.{is_simple_name, is_name_start, is_name_part, is_taken}
-use Rattle.js_tree.specs.Text as simple
+use Rattle.simple_scripts.specs.SimpleScripts.{Sum, NoSum, LiteralAlone, Terms, joined, negative, sum_form, sum_in}
+use Rattle.simple_scripts.specs.SimpleNames.{is_simple_name, is_name_start, is_name_part, is_taken}
+use Rattle.simple_scripts.specs.Text as simple
 use Rattle.js_tree.specs.declared.expression.Expr.{Expr}
 use Rattle.js_tree.specs.declared.expression.ExprForm.{out-ExprForm}
 use Rattle.js_tree.specs.declared.expression.ExprForm.TheOpen.{ExprForm-F}

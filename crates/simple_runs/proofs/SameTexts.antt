@@ -7,11 +7,13 @@ use Rattle.js_value.specs.declared.place.FuncNo.{FuncNo}
 use Rattle.js_value.specs.declared.place.Place.{Place}
 use Rattle.js_value.specs.declared.primitive.Primitive.{Primitive}
 use Rattle.js_tree.specs.Count.{in_expr}
-use Rattle.js_tree.specs.Residual.{variable, snapshot}
-use Rattle.js_tree.specs.Simple.{var_at, script_of, reads_declared}
-use Rattle.js_tree.specs.SimpleScripts.{sum_in, is_simple_init, is_simple_declarator, is_simple_form, is_simple_statement, is_simple, has_functions}
-use Rattle.js_tree.specs.SimpleTokens.{place, is_simple_name}
-use Rattle.js_tree.specs.Text as simple
+use Rattle.simple_scripts.specs.Snapshot.{variable, snapshot}
+use Rattle.simple_scripts.specs.Simple.{var_at, script_of, reads_declared}
+use Rattle.simple_scripts.specs.SimpleScripts.{sum_in, is_simple_init, is_simple_declarator, is_simple_form, is_simple_statement, is_simple}
+use Rattle.js_tree.specs.Parts.{has_functions}
+use Rattle.js_tree.specs.Refusals.{place}
+use Rattle.simple_scripts.specs.SimpleNames.{is_simple_name}
+use Rattle.simple_scripts.specs.Text as simple
 use Rattle.js_tree.specs.declared.expression.Expr.{Expr}
 use Rattle.js_tree.specs.declared.statement.Case.{Case}
 use Rattle.js_tree.specs.declared.statement.Catch.{Catch}

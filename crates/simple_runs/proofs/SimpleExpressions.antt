@@ -17,9 +17,9 @@ use Rattle.js_value.specs.declared.primitive.Primitive.{Primitive}
 use Rattle.js_value.specs.declared.primitive.Primitive.TheVariants as primitive
 use Rattle.js_value.specs.declared.why.Why.{Why}
 use Rattle.js_tree.specs.Count.{of_form, of_field, of_expr, in_expr}
-use Rattle.js_tree.specs.Simple.{names_in, names_in_form}
-use Rattle.js_tree.specs.SimpleScripts.{Sum, NoSum, LiteralAlone, Terms, joined, negative, sum_form, sum_in}
-use Rattle.js_tree.specs.SimpleTokens.{is_simple_name}
+use Rattle.simple_scripts.specs.Simple.{names_in, names_in_form}
+use Rattle.simple_scripts.specs.SimpleScripts.{Sum, NoSum, LiteralAlone, Terms, joined, negative, sum_form, sum_in}
+use Rattle.simple_scripts.specs.SimpleNames.{is_simple_name}
 use Rattle.js_tree.specs.declared.expression.Expr.{Expr}
 use Rattle.js_tree.specs.declared.expression.Field.{Field}
 use Rattle.js_tree.specs.declared.expression.ExprForm.{ExprForm, out-ExprForm}

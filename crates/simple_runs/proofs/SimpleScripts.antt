@@ -8,9 +8,10 @@ use Rattle.std.proofs.lemmas.List.Concat.{flat_map-append}
 use Rattle.std.proofs.lemmas.List.Folds.{list_all-append}
 use Rattle.std.specs.Str.{bytes_eq}
 use Rattle.js_tree.specs.Mentions.{Names, vars_in, form_vars, joined, declares, hoisted_vars, hoisted_functions, distinct_behind}
-use Rattle.js_tree.specs.Simple.{is_among, names_in_init, declarators_in, declarators_of, declared_names, read_names, reads_declared}
-use Rattle.js_tree.specs.SimpleScripts.{is_simple, is_simple_declarator, is_simple_init, is_simple_form, is_simple_statement, has_functions}
-use Rattle.js_tree.specs.SimpleTokens.{is_simple_name}
+use Rattle.js_tree.specs.Parts.{is_among, declarators_in, has_functions}
+use Rattle.simple_scripts.specs.Simple.{names_in_init, declarators_of, declared_names, read_names, reads_declared}
+use Rattle.simple_scripts.specs.SimpleScripts.{is_simple, is_simple_declarator, is_simple_init, is_simple_form, is_simple_statement}
+use Rattle.simple_scripts.specs.SimpleNames.{is_simple_name}
 use Rattle.js_tree.specs.declared.statement.Case.{Case}
 use Rattle.js_tree.specs.declared.statement.Catch.{Catch}
 use Rattle.js_tree.specs.declared.statement.Declarator.{Declarator}

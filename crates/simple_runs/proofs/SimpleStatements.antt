@@ -6,9 +6,10 @@ use Rattle.std.proofs.lemmas.Bool.{and_parts, leb-true}
 use Rattle.js_value.specs.declared.place.Place.{Place}
 use Rattle.js_value.specs.declared.primitive.Primitive.{Primitive}
 use Rattle.js_tree.specs.Count.{in_expr}
-use Rattle.js_tree.specs.Simple.{is_among, names_in, names_in_init, declarators_in}
-use Rattle.js_tree.specs.SimpleScripts.{Sum, NoSum, LiteralAlone, Terms, sum_in, is_short, is_simple_init, is_simple_declarator, is_simple_form, is_simple_statement}
-use Rattle.js_tree.specs.SimpleTokens.{is_simple_name}
+use Rattle.js_tree.specs.Parts.{is_among, declarators_in}
+use Rattle.simple_scripts.specs.Simple.{names_in, names_in_init}
+use Rattle.simple_scripts.specs.SimpleScripts.{Sum, NoSum, LiteralAlone, Terms, sum_in, is_short, is_simple_init, is_simple_declarator, is_simple_form, is_simple_statement}
+use Rattle.simple_scripts.specs.SimpleNames.{is_simple_name}
 use Rattle.js_tree.specs.declared.expression.Expr.{Expr}
 use Rattle.js_tree.specs.declared.statement.Case.{Case}
 use Rattle.js_tree.specs.declared.statement.Catch.{Catch}

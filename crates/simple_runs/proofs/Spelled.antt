@@ -5,9 +5,9 @@ use Rattle.std.proofs.lemmas.Bool.{and_parts}
 use Rattle.std.specs.List.{flat_map}
 use Rattle.js_value.specs.declared.primitive.Primitive.{Primitive}
 use Rattle.js_value.specs.declared.primitive.Primitive.TheVariants as primitive
-use Rattle.js_tree.specs.SimpleTokens.{place}
-use Rattle.js_tree.specs.Text.{declarator_text, declarators_text, script_text}
-use Rattle.js_tree.specs.Residual.{variable, snapshot}
+use Rattle.js_tree.specs.Refusals.{place}
+use Rattle.simple_scripts.specs.Text.{declarator_text, declarators_text, script_text}
+use Rattle.simple_scripts.specs.Snapshot.{variable, snapshot}
 use Rattle.simple_runs.specs.Readable.{is_plain_value, is_readable, is_readable_variable, value_text, variable_text, variables_text}
 use Rattle.simple_runs.proofs.Texts as texts
 use Rattle.simple_runs.proofs.Texts.{init_text-constant, script_text-var, behind_commas}

@@ -9,10 +9,10 @@ use Rattle.js_value.specs.declared.primitive.Primitive.{Primitive}
 use Rattle.js_value.specs.declared.primitive.Primitive.TheVariants as primitive
 use Rattle.js_tree.specs.declared.statement.Declarator.{Declarator}
 use Rattle.js_tree.specs.declared.statement.StmtForm.TheVariants.{outs-Var}
-use Rattle.js_tree.specs.SimpleTokens.{place}
-use Rattle.js_tree.specs.Simple.{literal, minus, var_at, script_of}
-use Rattle.js_tree.specs.Residual.{constant, variable, snapshot}
-use Rattle.js_tree.specs.Text.{Printed, printed, print_form, at_least, behind_sign, init_text, declarator_text, declarators_text, statement_text, script_text}
+use Rattle.js_tree.specs.Refusals.{place}
+use Rattle.simple_scripts.specs.Simple.{literal, minus, var_at, script_of}
+use Rattle.simple_scripts.specs.Snapshot.{constant, variable, snapshot}
+use Rattle.simple_scripts.specs.Text.{Printed, printed, print_form, at_least, behind_sign, init_text, declarator_text, declarators_text, statement_text, script_text}
 use Rattle.simple_runs.proofs.Forms.{fold-literal, fold-minus}
 use Rattle.simple_runs.specs.Readable.{is_plain_value, is_readable_variable, is_readable, constant_at, variable_at, variables_at, place_behind, placed}
 

@@ -17,7 +17,7 @@ use Rattle.plain_heap.specs.Values.{ObjNo, object_or_null}
 use Rattle.simple_runs.specs.Events as simple
 use Rattle.simple_runs.specs.Listing as listings
 use Rattle.simple_runs.specs.Runs as runs
-use Rattle.js_machine.specs.Machine.Listed.{FreeNames, Item, AnObject, ACell, Walked, Row, RealmRow, ListedProperty, in_value, in_property, in_class, in_object, next_of, enter, advance, queue_from, queue_of, listed_value, listed_property, old_count, gone_keys, is_changed, differs, row_of_realm, rank, is_new_object, NewRow, realm_row, object_row, sort_of, row_of, listing_by, listing, Agree}
+use Rattle.js_machine.specs.Machine.Listed.{FreeNames, Item, AnObject, ACell, Walked, Row, RealmRow, in_value, in_property, in_class, in_object, next_of, enter, advance, queue_from, queue_of, listed_value, listed_property, old_count, gone_keys, is_changed, differs, row_of_realm, rank, is_new_object, NewRow, realm_row, object_row, sort_of, row_of, listing_by, listing, Agree}
 use Rattle.js_machine.specs.Machine.Numbers.{global, object_prototype}
 use Rattle.js_machine.specs.Machine.Realm.{realm, realm_count}
 use Rattle.js_machine.specs.Machine.Walks.{Outcome, Normally}
@@ -27,9 +27,6 @@ use Rattle.simple_runs.specs.SimpleRuns.{variable, realm_with, Says}
 use Rattle.simple_runs.proofs.GlobalNames.{heap_with}
 use Rattle.simple_runs.proofs.GlobalVariables.{global_own}
 use Rattle.simple_runs.proofs.SimpleScripts.{other_objects, with_names, starts, realm_is}
-
-abbrev Lines : Type 0
-Lines = List ListedProperty
 
 -- ---- the walk: values that are no objects add nothing
 

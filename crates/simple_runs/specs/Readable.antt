@@ -8,10 +8,11 @@ use Rattle.js_value.specs.declared.primitive.Primitive.TheVariants as primitive
 use Rattle.js_tree.specs.declared.expression.Expr.{Expr}
 use Rattle.js_tree.specs.declared.statement.Declarator.{Declarator}
 use Rattle.js_tree.specs.declared.statement.Script.{Script}
-use Rattle.js_tree.specs.SimpleTokens.{place, is_simple_name}
-use Rattle.js_tree.specs.Simple.{literal, minus, declarator_of, var_at, script_of}
-use Rattle.js_tree.specs.Residual.{variable}
-use Rattle.js_tree.specs.Text.{declarator_text}
+use Rattle.js_tree.specs.Refusals.{place}
+use Rattle.simple_scripts.specs.SimpleNames.{is_simple_name}
+use Rattle.simple_scripts.specs.Simple.{literal, minus, declarator_of, var_at, script_of}
+use Rattle.simple_scripts.specs.Snapshot.{variable}
+use Rattle.simple_scripts.specs.Text.{declarator_text}
 
 -- undefined, or a number of the profile
 abbrev pub is_plain_value : Primitive → Bool

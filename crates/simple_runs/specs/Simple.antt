@@ -15,7 +15,7 @@ use Rattle.js_tree.specs.declared.statement.Stmt.{Stmt}
 use Rattle.js_tree.specs.declared.statement.StmtForm.{out-StmtForm}
 use Rattle.js_tree.specs.declared.statement.StmtForm.TheOpen.{StmtForm-F}
 use Rattle.js_tree.specs.declared.statement.Script.{Script}
-use Rattle.js_tree.specs.Simple.{declared_names}
+use Rattle.simple_scripts.specs.Simple.{declared_names}
 use Rattle.simple_runs.specs.Events.{Heap, Tree, End, Run, ◌>>=◌, give, leave, no_rule, step, lookup, put, declare, change, or_no_rule, or_leave}
 
 -- ---- 11: expressions

@@ -2,8 +2,8 @@
 use Rattle.std.specs.Prelude.{◌≡◌, ℕ, Bool, true, false, List, [], ◌++◌, map, Some, IsTrue}
 use Rattle.std.specs.Option.{option_map}
 use Rattle.js_value.specs.declared.primitive.Primitive.{Primitive}
-use Rattle.js_tree.specs.SimpleScripts.{is_simple}
-use Rattle.js_tree.specs.SimpleTokens.{is_simple_name}
+use Rattle.simple_scripts.specs.SimpleScripts.{is_simple}
+use Rattle.simple_scripts.specs.SimpleNames.{is_simple_name}
 use Rattle.js_tree.specs.declared.statement.Script.{Script}
 use Rattle.plain_heap.specs.Heap.{Heap, Key, ObjectState, Property, data_property, object_at, set_object}
 use Rattle.plain_heap.specs.Methods.{or_value, get, GotValue}

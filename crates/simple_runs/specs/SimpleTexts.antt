@@ -2,9 +2,9 @@
 use Rattle.std.specs.Prelude.{◌≡◌, ℕ, Bool, true, false, List, [], IsTrue}
 use Rattle.std.specs.List.{list_all}
 use Rattle.js_value.specs.declared.primitive.Primitive.{Primitive}
-use Rattle.js_tree.specs.Residual.{snapshot}
-use Rattle.js_tree.specs.SimpleScripts.{is_simple}
-use Rattle.js_tree.specs.Text as simple
+use Rattle.simple_scripts.specs.Snapshot.{snapshot}
+use Rattle.simple_scripts.specs.SimpleScripts.{is_simple}
+use Rattle.simple_scripts.specs.Text as simple
 use Rattle.js_tree.specs.declared.statement.Stmt.{Stmt}
 use Rattle.js_tree.specs.declared.statement.StmtForm.{out-StmtForm}
 use Rattle.js_tree.specs.declared.statement.StmtForm.TheOpen.{StmtForm-F}

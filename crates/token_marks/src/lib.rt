@@ -15,6 +15,5 @@ pub use statements::{
 };
 pub use trees::{is_name, is_string_statement, is_target, last_has_init};
 pub use words::{
-    barred, form_name, is_abstract, is_residual, is_spelled, kind_of, property_name, spelled,
-    text_of,
+    barred, form_name, is_abstract, is_residual, kind_of, property_name, spelled, text_of,
 };

@@ -9,7 +9,6 @@ ghost use Rattle.js_grammar.specs.Reading.{grammar};
 ghost use Rattle.js_grammar.specs.Statements as spec;
 ghost use Rattle.token_marks.specs.Beginnings.{form_of, named};
 
-use crate::words::is_spelled;
 use js_tree::{Keyword, Punctuator, StmtForm, Token, TokenForm};
 
 /// The two jumps that may have a label.
@@ -173,7 +172,7 @@ pub fn is_use_strict(token: &Token) -> bool
 {
     match &token.form {
         TokenForm::Str(text) => {
-            is_spelled(text.as_slice(), b"use strict")
+            text.is_spelled(b"use strict")
                 && token.end.0 >= token.at.0
                 && token.end.0 - token.at.0 == 12
         }

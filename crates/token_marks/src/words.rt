@@ -1,24 +1,12 @@
 //! Words and names by their spelling.
 
-ghost use Rattle.std.specs.Prelude.{◌≡◌, IfOk, OnOk, ◌++◌, length, map};
-ghost use Rattle.std.specs.Str.{bytes_eq};
+ghost use Rattle.std.specs.Prelude.{◌≡◌, IfOk, map};
 ghost use Rattle.std.specs.Fmt.{signed_decimal};
 ghost use Rattle.js_grammar.specs.Marks as marks;
 
 use js_tree::{Feature, KEYWORDS, Keyword, TokenForm};
 use js_value::{Kind, NoMemory, Text, push_number};
 use std::alloc::Global;
-
-/// Whether a text is spelled so in ASCII.
-pub fn is_spelled(units: &[u16], word: &[u8]) -> bool
-    ensures { result ≡ bytes_eq units.now word.now }
-{
-    match (units, word) {
-        ([u, units @ ..], [b, word @ ..]) => *u == u16::from(*b) && is_spelled(units, word),
-        ([], []) => true,
-        _ => false,
-    }
-}
 
 /// The text of a word in ASCII.
 pub fn text_of(alloc: Global, word: &[u8]) -> Result<Text, NoMemory>
@@ -54,10 +42,10 @@ pub fn spelled(word: Keyword) -> &'static [u8]
 pub fn barred(name: &Text) -> Option<Feature>
     ensures { result ≡ marks.barred name.now }
 {
-    if is_spelled(name.as_slice(), b"eval") {
+    if name.is_spelled(b"eval") {
         return Some(Feature::Eval);
     }
-    if is_spelled(name.as_slice(), b"arguments") {
+    if name.is_spelled(b"arguments") {
         return Some(Feature::Arguments);
     }
     None
@@ -67,14 +55,14 @@ pub fn barred(name: &Text) -> Option<Feature>
 pub fn is_abstract(name: &Text) -> bool
     ensures { result ≡ marks.is_abstract name.now }
 {
-    is_spelled(name.as_slice(), b"__abstract")
+    name.is_spelled(b"__abstract")
 }
 
 /// Whether a name begins the form of a host call.
 pub fn is_residual(name: &Text) -> bool
     ensures { result ≡ marks.is_residual name.now }
 {
-    is_spelled(name.as_slice(), b"__residual")
+    name.is_spelled(b"__residual")
 }
 
 /// The names of the two forms.
@@ -94,13 +82,13 @@ pub fn form_name(name: &Text) -> Option<Feature>
 pub fn kind_of(text: &Text) -> Option<Kind>
     ensures { result ≡ marks.kind_of text.now }
 {
-    if is_spelled(text.as_slice(), b"number") {
+    if text.is_spelled(b"number") {
         return Some(Kind::Number);
     }
-    if is_spelled(text.as_slice(), b"boolean") {
+    if text.is_spelled(b"boolean") {
         return Some(Kind::Boolean);
     }
-    if is_spelled(text.as_slice(), b"string") {
+    if text.is_spelled(b"string") {
         return Some(Kind::Text);
     }
     None

@@ -10,7 +10,7 @@ ghost use Rattle.token_reader.specs.Reader.{rest_of, IsAnswer};
 use crate::reader::Reader;
 use js_tree::{Expr, ExprForm, Feature, Punctuator, ReadRefused, Token, TokenForm};
 use js_value::{Kind, Place, Text};
-use token_marks::{barred, is_spelled};
+use token_marks::barred;
 
 impl<'a> Reader<'a> {
     // ---- the two forms for inputs and host calls
@@ -116,7 +116,7 @@ impl<'a> Reader<'a> {
                     form: TokenForm::Name(text),
                     ..
                 },
-            ) => is_spelled(text.as_slice(), word),
+            ) => text.is_spelled(word),
             _ => false,
         }
     }

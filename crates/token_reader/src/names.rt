@@ -1,6 +1,6 @@
 //! Names that are declared (12.14, 13).
 
-ghost use Rattle.std.specs.Prelude.{◌≡◌, ◌<◌, ◌≤◌, length, IfOk};
+ghost use Rattle.std.specs.Prelude.{◌<◌, ◌≤◌, length, IfOk};
 ghost use Rattle.js_grammar.specs.Functions as spec;
 ghost use Rattle.js_grammar.specs.Reading.{grammar};
 ghost use Rattle.js_grammar.specs.Rest.{repeat};

@@ -1,6 +1,6 @@
 //! What is left of the tokens while they are read, and the steps that productions are made of.
 
-ghost use Rattle.std.specs.Prelude.{◌≡◌, ◌<◌, ◌≤◌, ◌^◌, length, is_some, true, IfOk};
+ghost use Rattle.std.specs.Prelude.{◌≡◌, ◌<◌, ◌≤◌, length, is_some, true, IfOk};
 ghost use Rattle.js_grammar.specs.Marks as marks;
 ghost use Rattle.js_grammar.specs.Rest as spec;
 ghost use Rattle.token_reader.specs.Reader.{all_of, rest_of, taken, IsAnswer, IsTaken};

@@ -1,7 +1,6 @@
 //! Tokens by what they are in a production.
 
-ghost use Rattle.std.specs.Prelude.{◌≡◌, ◌<◌, ◌≤◌, drop, length, is_some, IfOk, IfSome};
-ghost use Rattle.std.specs.Str.{bytes_eq};
+ghost use Rattle.std.specs.Prelude.{◌≡◌, ◌<◌, ◌≤◌, length, is_some, IfOk, IfSome};
 ghost use Rattle.js_grammar.specs.Marks as marks;
 ghost use Rattle.js_grammar.specs.Operators as operators;
 ghost use Rattle.js_grammar.specs.Rest as spec;

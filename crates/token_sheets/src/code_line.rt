@@ -1,9 +1,9 @@
 //! The code of a function on one line.
 
-ghost use Rattle.std.specs.Prelude.{◌≡◌, ◌++◌, [], Bool, List, length, take, OnOk, IfOk};
+ghost use Rattle.std.specs.Prelude.{◌≡◌, ◌++◌, OnOk};
 ghost use Rattle.std.specs.List.{position};
 ghost use Rattle.std.specs.Str.{bytes_eq};
-ghost use Rattle.js_tree.specs.Simple.{is_among};
+ghost use Rattle.js_tree.specs.Parts.{is_among};
 ghost use Rattle.script_text.specs.CodeLine as spec;
 ghost use Rattle.script_text.specs.CodeLine.{add};
 ghost use Rattle.script_text.specs.Pieces.{Reference, Bind, Release, utf8};

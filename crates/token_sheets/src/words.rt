@@ -1,13 +1,13 @@
 //! Tokens by what they stand for: names, literals and operators, and how tight these bind.
 
-ghost use Rattle.std.specs.Prelude.{◌≡◌, ◌++◌, ◌∷◌, [], OnOk, true, false};
+ghost use Rattle.std.specs.Prelude.{◌≡◌, [], OnOk, true, false};
 ghost use Rattle.js_tree.specs.declared.expression.ExprForm.{out-ExprForm};
 ghost use Rattle.js_tree.specs.Lexing as lexing;
 ghost use Rattle.script_text.specs.Expressions as spec;
 ghost use Rattle.token_sheets.specs.Sheets.{put_all};
 
 use crate::sheet::Sheet;
-use js_tree::{ExprForm, LogicOp, StepOp};
+use js_tree::{ExprForm, LogicOp, StepOp, is_name_part, is_name_start};
 use js_value::{BinaryOp, Kind, NoMemory, Primitive, Text, UnaryOp};
 use script_text::Gap;
 use std::alloc::Global;
@@ -24,26 +24,6 @@ pub fn literal(alloc: Global, page: &mut Sheet, value: &Primitive) -> Result<(),
         Primitive::Number(n) => page.number(alloc, *n),
         Primitive::Text(text) => page.quoted(alloc, text, Gap::Loose),
     }
-}
-
-/// A character that an identifier name may begin with (7.6).
-#[tactic(auto, unfolding(js_tree::specs::Lexing::is_name_start))]
-fn is_name_start(c: char) -> bool
-    ensures { result ≡ lexing.is_name_start c }
-{
-    unicode_ident::is_xid_start(c) | (c == '$') | (c == '_')
-}
-
-/// A character that an identifier name may go on with (7.6).
-#[tactic(auto, unfolding(js_tree::specs::Lexing::is_name_part))]
-fn is_name_part(c: char) -> bool
-    ensures { result ≡ lexing.is_name_part c }
-{
-    unicode_ident::is_xid_continue(c)
-        | (c == '$')
-        | (c == '_')
-        | (c == '\u{200C}')
-        | (c == '\u{200D}')
 }
 
 fn is_ascii_start(u: u16) -> bool

@@ -1,11 +1,7 @@
 //! Whether a tree is no higher than a number.
 
-ghost use Rattle.std.specs.Prelude.{◌≡◌, true, List};
+ghost use Rattle.std.specs.Prelude.{◌≡◌, true};
 ghost use Rattle.std.specs.List.{list_all};
-ghost use Rattle.js_tree.specs.declared.expression.Field.{out-Field};
-ghost use Rattle.js_tree.specs.declared.expression.ExprForm.{out-ExprForm};
-ghost use Rattle.js_tree.specs.declared.statement.Case.{out-Case};
-ghost use Rattle.js_tree.specs.declared.statement.StmtForm.{out-StmtForm};
 ghost use Rattle.js_grammar.specs.Heights as spec;
 ghost use Rattle.tree_heights.specs.Within as within;
 

@@ -6,7 +6,7 @@ use Rattle.js_tree.specs.declared.expression.Field.TheVariants.{outs-Value}
 use Rattle.js_tree.specs.declared.expression.ExprForm.TheVariants as e
 use Rattle.js_tree.specs.declared.statement.Script.{Script}
 use Rattle.js_tree.specs.declared.statement.StmtForm.TheVariants as s
-use Rattle.plain_heap.specs.Heap.{Heap, ObjectState, Properties, Property, Plain}
+use Rattle.plain_heap.specs.Heap.{Heap, ObjectState, Plain}
 use Rattle.js_machine.specs.Machine.Levels.{script_tree_within}
 use Rattle.js_machine.specs.Machine.Numbers.{object_prototype}
 use Rattle.js_machine.specs.Machine.Realm.{usual, fixed, absent}

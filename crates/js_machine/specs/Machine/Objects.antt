@@ -8,7 +8,7 @@ use Rattle.js_value.specs.declared.primitive.Primitive.TheVariants as primitive
 use Rattle.js_value.specs.declared.why.Why.TheVariants.{AbsentBuiltin, PrimitiveProperty, PrimitiveThis}
 use Rattle.plain_heap.specs.Values.{Value, Prim, Object, Absent, ObjNo, ScopeNo, number, text}
 use Rattle.plain_heap.specs.Heap.{Key, Heap, Property, ObjectState, Class, Plain, Array, Function, data_property, new_object, object_at, set_object, add_object, is_array}
-use Rattle.plain_heap.specs.Methods.{Descriptor, value_field, data_fields, checked_key, own_property, Got, GotValue, CallGetter, Putting, Refuse, Define, CallSetter, Defining, Defined, Rejected, BadLength, IfSame, array_index, length_key}
+use Rattle.plain_heap.specs.Methods.{Descriptor, data_fields, checked_key, own_property, Got, GotValue, CallGetter, Putting, Refuse, Define, CallSetter, Defining, Defined, Rejected, BadLength, IfSame, array_index, length_key}
 use Rattle.plain_heap.specs.Methods as methods
 use Rattle.js_machine.specs.Machine.Numbers.{ErrorKind, TypeError, RangeError, error_prototype, object_prototype, function_prototype, array_prototype}
 use Rattle.js_machine.specs.Machine.Operators.{same_value, to_length}

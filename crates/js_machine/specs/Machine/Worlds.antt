@@ -1,5 +1,5 @@
 -- What a world gives to a script.
-use Rattle.std.specs.Prelude.{Bool, true, false, [], IsTrue}
+use Rattle.std.specs.Prelude.{Bool, true, false, IsTrue}
 use Rattle.std.specs.List.{list_all}
 use Rattle.std.specs.Option.{option_map}
 use Rattle.js_tree.specs.Early.{is_closed}
@@ -8,9 +8,6 @@ use Rattle.js_tree.specs.declared.statement.Script.{Script}
 use Rattle.plain_heap.specs.Heap.{lookup}
 use Rattle.plain_heap.specs.Methods.{or_value}
 use Rattle.js_machine.specs.Machine.Walks.{World, is_of_kind}
-
-abbrev pub empty_world : World
-empty_world = record { inputs = []; answers = [] }
 
 -- an input that is taken has a value of its kind
 abbrev pub is_given : World → Mention → Bool

@@ -1,5 +1,5 @@
 use Rattle.std.proofs.Common.{◌≡◌, take, []}
-use Rattle.js_tree.specs.Simple.{declared_names}
+use Rattle.simple_scripts.specs.Simple.{declared_names}
 use Rattle.prepack_core.specs.Evaluates.{declared_after}
 use Rattle.prepack_core.proofs.evaluate.declared_variables.Given as goal
 

@@ -2,8 +2,9 @@ use Rattle.std.proofs.Common.{ap, ◌∙◌, arith}
 use Rattle.std.proofs.lemmas.Result.{err_from_is_err_and}
 use Rattle.std.specs.List.{list_all}
 use Rattle.js_tree.specs.Count.{in_stmt}
-use Rattle.js_tree.specs.Simple.{names_in_init, declarators_in, declared_names}
-use Rattle.js_tree.specs.SimpleScripts.{is_simple_statement}
+use Rattle.simple_scripts.specs.Simple.{names_in_init, declared_names}
+use Rattle.js_tree.specs.Parts.{declarators_in}
+use Rattle.simple_scripts.specs.SimpleScripts.{is_simple_statement}
 use Rattle.js_tree.specs.declared.statement.StmtForm.{out-StmtForm}
 use Rattle.simple_runs.specs.Simple.{statement, declared}
 use Rattle.prepack_core.specs.Evaluates as spec

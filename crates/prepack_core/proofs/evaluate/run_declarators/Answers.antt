@@ -2,7 +2,7 @@ use Rattle.std.proofs.Common.{arith}
 use Rattle.std.proofs.lemmas.Result.{err_from_is_err_and}
 use Rattle.simple_runs.specs.Simple.{declarator_rule}
 use Rattle.js_tree.specs.Count.{in_maybe}
-use Rattle.js_tree.specs.Simple.{names_in_init}
+use Rattle.simple_scripts.specs.Simple.{names_in_init}
 use Rattle.prepack_core.specs.Evaluates as spec
 use Rattle.prepack_core.proofs.Turns.{remains_next, remains_stops, remains_none, all_in_part}
 use Rattle.prepack_core.proofs.Bound.{are_bound-kept, keeps_both}

@@ -1,6 +1,6 @@
 use Rattle.std.proofs.Common.{[], ap, ◌∙◌}
 use Rattle.std.proofs.lemmas.List.{take_all}
-use Rattle.js_tree.specs.Simple.{is_among}
+use Rattle.js_tree.specs.Parts.{is_among}
 use Rattle.js_scope.specs.Hoisting.{add_all}
 use Rattle.js_scope.proofs.Gathered.{among_all}
 use Rattle.js_scope.proofs.names.Names.of.Goals as goal

@@ -1,6 +1,6 @@
 use Rattle.std.proofs.Common.{ap, sym, ◌∙◌}
 use Rattle.std.specs.Prelude.{slice_get}
-use Rattle.js_tree.specs.SimpleTokens.{is_simple_name}
+use Rattle.simple_scripts.specs.SimpleNames.{is_simple_name}
 use Rattle.prepack_core.proofs.Bindings.{all-at}
 use Rattle.prepack_core.proofs.variables.Variables.at.Goals as goal
 

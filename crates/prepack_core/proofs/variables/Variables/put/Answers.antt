@@ -1,5 +1,5 @@
 use Rattle.std.proofs.Common.{ap, ◌∙◌}
-use Rattle.js_tree.specs.SimpleTokens.{is_simple_name}
+use Rattle.simple_scripts.specs.SimpleNames.{is_simple_name}
 use Rattle.simple_runs.specs.Events as machine
 use Rattle.prepack_core.specs.Values.{primitive_of, shown}
 use Rattle.prepack_core.proofs.Bindings.{shown-insert, all-insert}
