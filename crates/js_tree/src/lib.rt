@@ -12,8 +12,6 @@ mod flat;
 mod forms;
 mod refusal;
 mod statement;
-#[cfg(test)]
-mod tests;
 mod token;
 
 pub use characters::{is_name_part, is_name_start};
