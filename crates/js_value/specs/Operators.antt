@@ -3,6 +3,7 @@
 use Rattle.std.specs.Prelude.{◌^◌, ◌%◌, ◌++◌, ℕ, ℤ, pos, neg_ℤ, ◌-ℤ◌, ◌*ℤ◌, unsigned_abs, bit_and, bit_or, bit_xor, int_lt, int_le, int_div, int_rem, Bool, true, false, not, nat_le, ◌&&◌, ◌||◌, if◌then◌else◌, List, length, codes, Option, Some, None, Result, Ok, Err}
 use Rattle.std.specs.Cmp.Lexicographic.{slice_cmp}
 use Rattle.std.specs.Int.{int_div_euclid}
+use Rattle.std.specs.Option.{option_map}
 use Rattle.std.specs.Ordering.{int_eq, is_lt, is_le, is_gt, is_ge, nat_cmp}
 use Rattle.js_value.specs.Numbers.{added, subtracted, negated, within}
 use Rattle.js_value.specs.Conversions.{◌>>=◌, to_boolean, to_number, to_text, uint32, int32, signed32, is_same_value}
@@ -169,19 +170,24 @@ not_equal a b = do
 
 -- ---- the operators with two operands
 
+-- those on two numbers
+unfoldable pub number_row : BinaryOp → Option (ℤ → ℤ → Result ℤ Why)
+number_row binary.Sub = Some subtracted
+number_row binary.Mul = Some multiplied
+number_row binary.Div = Some divided
+number_row binary.Rem = Some remainder
+number_row binary.Shl = Some shifted_left
+number_row binary.Sar = Some shifted_right
+number_row binary.Shr = Some shifted_right_unsigned
+number_row binary.BitAnd = Some (bitwise bit_and)
+number_row binary.BitOr = Some (bitwise bit_or)
+number_row binary.BitXor = Some (bitwise bit_xor)
+number_row _ = None
+
 -- The row of an operator. `in` and `instanceof` have none: they look into objects (11.8.6, 11.8.7).
 unfoldable pub binary_row : BinaryOp → Option (Primitive → Primitive → Entry)
+unfolding number_row
 binary_row binary.Add = Some add
-binary_row binary.Sub = Some (numeric subtracted)
-binary_row binary.Mul = Some (numeric multiplied)
-binary_row binary.Div = Some (numeric divided)
-binary_row binary.Rem = Some (numeric remainder)
-binary_row binary.Shl = Some (numeric shifted_left)
-binary_row binary.Sar = Some (numeric shifted_right)
-binary_row binary.Shr = Some (numeric shifted_right_unsigned)
-binary_row binary.BitAnd = Some (numeric (bitwise bit_and))
-binary_row binary.BitOr = Some (numeric (bitwise bit_or))
-binary_row binary.BitXor = Some (numeric (bitwise bit_xor))
 binary_row binary.Less = Some less
 binary_row binary.Greater = Some greater
 binary_row binary.LessEqual = Some less_or_equal
@@ -192,8 +198,7 @@ binary_row binary.NotEqual = Some not_equal
 binary_row binary.Same = Some (λ a b. truth (strictly_equal a b))
 -- 11.9.5
 binary_row binary.NotSame = Some (λ a b. truth (not (strictly_equal a b)))
-binary_row binary.In = None
-binary_row binary.InstanceOf = None
+binary_row op = option_map numeric (number_row op)
 
 -- ---- 11.4: the operators with one operand
 
