@@ -1,8 +1,7 @@
 -- Numbers that decimal digits spell, with a bound on them.
-use Rattle.std.proofs.Common.{◌≡◌, ◌∙◌, ap, sym, refl, cond, ℕ, ℤ, pos, min, ◌+◌, ◌-◌, ◌*◌, ◌<◌, ◌≤◌, Bool, true, false, List, length, take, map, get_or, arith, Result, Ok, Err}
+use Rattle.std.proofs.Common.{◌≡◌, ℕ, pos, min, ◌+◌, ◌-◌, ◌*◌, ◌<◌, true, List, length, take, get_or, arith}
 use Rattle.std.specs.Char.{digit_value, is_ascii_digit}
 use Rattle.std.specs.List.{list_all}
-use Rattle.std.specs.Str.Parse as parse
 use Rattle.std.proofs.lemmas.Int.Digits.{digits_value_more, digits_value_is}
 use Rattle.std.proofs.lemmas.List.Folds.{list_all_at}
 use Rattle.std.proofs.lemmas.Grind.{common_steps}

@@ -4,7 +4,9 @@ ghost use Rattle.std.specs.Prelude.{◌≡◌, IfOk};
 ghost use Rattle.js_value.specs.Conversions as spec;
 
 use crate::spelling::number_of_text;
-use crate::{Primitive, Text, Why};
+use crate::{NoMemory, Primitive, Text, Why};
+use itoa::Buffer;
+use std::alloc::Global;
 
 /// ToBoolean (9.2).
 #[tactic(auto, unfolding(crate::specs::Conversions::to_boolean))]
@@ -45,5 +47,31 @@ pub fn same_value(a: &Primitive, b: &Primitive) -> bool
         (Primitive::Number(a), Primitive::Number(b)) => *a == *b,
         (Primitive::Text(a), Primitive::Text(b)) => *a == *b,
         _ => false,
+    }
+}
+
+/// The text of ASCII.
+pub fn text_of_ascii(alloc: Global, bytes: &[u8]) -> Result<Text, NoMemory>
+    ensures { IfOk result (λ t. t ≡ bytes.now) }
+{
+    let mut units = Vec::with_capacity(alloc, bytes.len())?;
+    for b in bytes {
+        units.push(u16::from(*b))?;
+    }
+    Ok(Text::from_vec(units))
+}
+
+/// ToString (9.8).
+#[tactic(auto, unfolding(crate::specs::Conversions::to_text))]
+pub fn to_text(alloc: Global, a: &Primitive) -> Result<Text, NoMemory>
+    ensures { IfOk result (λ t. t ≡ spec.to_text a.now) }
+{
+    match a {
+        Primitive::Undefined => text_of_ascii(alloc, b"undefined"),
+        Primitive::Null => text_of_ascii(alloc, b"null"),
+        Primitive::Boolean(true) => text_of_ascii(alloc, b"true"),
+        Primitive::Boolean(false) => text_of_ascii(alloc, b"false"),
+        Primitive::Number(n) => text_of_ascii(alloc, Buffer::new().format(*n).as_bytes()),
+        Primitive::Text(t) => t.copy(alloc),
     }
 }
