@@ -16,7 +16,8 @@ use js_tree::{
     Case, Cases, Catch, Declarator, Declarators, Expr, Feature, Finally, ForStart, ForTarget,
     Keyword, Name, Punctuator, ReadRefused, Stmt, StmtForm, Stmts, Token, TokenForm,
 };
-use js_value::{Place, Seq};
+use js_value::{Box, NoMemory, Place, Seq};
+use std::alloc::Global;
 use token_marks::{Beginning, Jump, barred, is_target};
 use token_reader::Closer;
 
@@ -28,12 +29,17 @@ pub enum Header {
 }
 
 /// The statement of a header and a body.
-fn whole(header: Header, body: Stmt) -> StmtForm
-    ensures { result ≡ whole_of header body }
+fn whole(alloc: Global, header: Header, body: Stmt) -> Result<StmtForm, NoMemory>
+    ensures { IfOk result (λ form. form ≡ whole_of header body) }
 {
     match header {
-        Header::Parts(from, test, step) => StmtForm::For(from, test, step, body),
-        Header::In(to, object) => StmtForm::ForIn(to, object, body),
+        Header::Parts(from, test, step) => Ok(StmtForm::For(
+            Box::new(alloc, from)?,
+            Box::new(alloc, test)?,
+            Box::new(alloc, step)?,
+            body,
+        )),
+        Header::In(to, object) => Ok(StmtForm::ForIn(Box::new(alloc, to)?, object, body)),
     }
 }
 
@@ -402,7 +408,8 @@ impl<'a> Parser<'a> {
         let header = self.for_header()?;
         self.reader.leave(opened);
         let body = self.inner_statement()?;
-        self.reader.finish_stmt(at, whole(header, body))
+        let form = whole(self.reader.alloc, header, body)?;
+        self.reader.finish_stmt(at, form)
     }
 
     /// What `return` gives, where there is something (12.9).
@@ -515,7 +522,7 @@ impl<'a> Parser<'a> {
     /// `catch` (12.14).
     #[cycle(reading)]
     #[tactic(auto, unfolding(js_grammar::specs::Rest::next))]
-    pub fn catch_part(&mut self) -> Result<Option<Catch>, ReadRefused>
+    pub fn catch_part(&mut self) -> Result<Option<Box<Catch>>, ReadRefused>
         ensures answer { IsAnswer (spec.catch_part grammar) (rest_of self.old.reader) (rest_of self.new.reader) result }
         ensures within { length self.new.reader.rest.now ≤ length self.old.reader.rest.now }
     {
@@ -525,17 +532,18 @@ impl<'a> Parser<'a> {
         self.reader.expect(Punctuator::LeftParenthesis)?;
         let Name { at, text } = self.reader.catch_name()?;
         let body = self.braced()?;
-        Ok(Some(Catch {
+        let handler = Catch {
             at,
             name: text,
             body,
-        }))
+        };
+        Ok(Some(Box::new(self.reader.alloc, handler)?))
     }
 
     /// `finally` (12.14).
     #[cycle(reading)]
     #[tactic(auto, unfolding(js_grammar::specs::Rest::next))]
-    pub fn finally_part(&mut self) -> Result<Option<Finally>, ReadRefused>
+    pub fn finally_part(&mut self) -> Result<Option<Box<Finally>>, ReadRefused>
         ensures answer { IsAnswer (spec.finally_part grammar) (rest_of self.old.reader) (rest_of self.new.reader) result }
         ensures within { length self.new.reader.rest.now ≤ length self.old.reader.rest.now }
     {
@@ -543,7 +551,7 @@ impl<'a> Parser<'a> {
             return Ok(None);
         }
         let body = self.braced()?;
-        Ok(Some(Finally { body }))
+        Ok(Some(Box::new(self.reader.alloc, Finally { body })?))
     }
 
     /// `try` (12.14).

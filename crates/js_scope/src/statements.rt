@@ -6,7 +6,7 @@ ghost use Rattle.js_scope.specs.Mentioning as spec;
 use crate::mention::{Mention, push_unbound};
 use crate::walk::Walk;
 use js_tree::{Case, Catch, Declarator, Expr, Finally, ForStart, ForTarget, Stmt, StmtForm};
-use js_value::NoMemory;
+use js_value::{Box, NoMemory};
 use std::slice::from_ref;
 
 impl<'a> Walk<'a, '_> {
@@ -97,7 +97,7 @@ impl<'a> Walk<'a, '_> {
     #[cycle(stmt_mentions)]
     fn in_handler(
         &self,
-        handler: &'a Option<Catch>,
+        handler: &'a Option<Box<Catch>>,
         mentions: &mut Vec<Mention<'a>>,
     ) -> Result<(), NoMemory>
         ensures { OnOk result (spec.told mentions.new.items ≡ spec.told mentions.old.items ++ spec.in_handler self.now handler.now) }
@@ -111,7 +111,7 @@ impl<'a> Walk<'a, '_> {
     #[cycle(stmt_mentions)]
     fn in_last(
         &self,
-        last: &'a Option<Finally>,
+        last: &'a Option<Box<Finally>>,
         mentions: &mut Vec<Mention<'a>>,
     ) -> Result<(), NoMemory>
         ensures { OnOk result (spec.told mentions.new.items ≡ spec.told mentions.old.items ++ spec.in_last self.now last.now) }

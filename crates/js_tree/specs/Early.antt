@@ -13,7 +13,7 @@ use Rattle.js_tree.specs.declared.statement.Script.{Script}
 use Rattle.js_tree.specs.declared.statement.Stmt.{Stmt, fold-Stmt}
 use Rattle.js_tree.specs.declared.statement.StmtForm.TheOpen.{StmtForm-F}
 use Rattle.js_tree.specs.Mentions.{Mention, AssignsOwn, Takes, Repeats, mentions, joined, of_none}
-use Rattle.js_tree.specs.Forms.{in_script}
+use Rattle.js_tree.specs.Weighed.{in_script}
 
 -- ---- jumps (12.7 to 12.9): the places of those that leave a statement
 
@@ -104,8 +104,8 @@ early_fault s = fold lesser None (jump_faults s ++ mention_faults (mentions s))
 
 -- how many host calls a script has
 unfoldable pub host_forms : Script → ℕ
-host_forms s = in_script (record { input = 0; host_call = 1 }) s
+host_forms s = in_script (record { node = 0; input = 0; host_call = 1 }) s
 
 -- neither an input nor a host call
 unfoldable pub is_closed : Script → Bool
-is_closed s = in_script (record { input = 1; host_call = 1 }) s == 0
+is_closed s = in_script (record { node = 0; input = 1; host_call = 1 }) s == 0

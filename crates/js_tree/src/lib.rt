@@ -6,19 +6,16 @@ ghost use Rattle.js_tree.specs.FlatCases.{FlatCases};
 ghost use Rattle.js_tree.specs.NameCases.{NameCases};
 
 mod characters;
-mod count;
 mod expression;
 mod flat;
-mod forms;
 mod refusal;
 mod statement;
 mod token;
+mod weights;
 
 pub use characters::{is_name_part, is_name_start};
-pub use count::nodes;
 pub use expression::{Elements, Expr, ExprForm, Exprs, Field, Fields, LogicOp, StepOp};
 pub use flat::is_flat;
-pub use forms::{host_forms, is_closed};
 pub use refusal::{Feature, ReadRefused};
 pub use statement::{
     Case, Cases, Catch, Declarator, Declarators, Finally, ForStart, ForTarget, Func, Funcs, Name,
@@ -27,6 +24,7 @@ pub use statement::{
 pub use token::{
     InputElement, KEYWORDS, Keyword, PUNCTUATORS, Punctuator, Token, TokenForm, Tokens,
 };
+pub use weights::{host_forms, is_closed, nodes};
 
 /// Cases of the early checks, worked out by hand.
 #[tactic(auto, using(crate::proofs::EarlyCases::early_cases))]

@@ -88,14 +88,14 @@ pub enum StmtForm {
     If(Expr, Stmt, Option<Stmt>),
     DoWhile(Stmt, Expr),
     While(Expr, Stmt),
-    For(ForStart, Option<Expr>, Option<Expr>, Stmt),
-    ForIn(ForTarget, Expr, Stmt),
+    For(Box<ForStart>, Box<Option<Expr>>, Box<Option<Expr>>, Stmt),
+    ForIn(Box<ForTarget>, Expr, Stmt),
     Continue,
     Break,
     Return(Option<Expr>),
     Switch(Expr, Cases),
     Throw(Expr),
-    Try(Stmts, Option<Catch>, Option<Finally>),
+    Try(Stmts, Option<Box<Catch>>, Option<Box<Finally>>),
 }
 
 /// A function (13): its name where it has one, its parameters and its body. `directive` says that `"use strict"` is in

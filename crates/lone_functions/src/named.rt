@@ -4,6 +4,7 @@ ghost use Rattle.std.specs.Prelude.{◌≡◌, min, length};
 ghost use Rattle.js_grammar.specs.FunctionOrder as order;
 ghost use Rattle.lone_functions.specs.Named as spec;
 
+use js_value::Box;
 use js_tree::{
     Case, Catch, Declarator, Expr, ExprForm, Field, Finally, ForStart, ForTarget, Stmt, StmtForm,
 };
@@ -182,7 +183,7 @@ fn in_finally(f: &Finally) -> u64
 
 #[cycle(statement_functions)]
 #[tactic(auto, using(crate::proofs::Counted::statement_sizes))]
-fn in_handler(c: &Option<Catch>) -> u64
+fn in_handler(c: &Option<Box<Catch>>) -> u64
     ensures { result ≡ min (spec.in_handler c.now) 18446744073709551615 }
 {
     match c {
@@ -193,7 +194,7 @@ fn in_handler(c: &Option<Catch>) -> u64
 
 #[cycle(statement_functions)]
 #[tactic(auto, using(crate::proofs::Counted::statement_sizes))]
-fn in_last(f: &Option<Finally>) -> u64
+fn in_last(f: &Option<Box<Finally>>) -> u64
     ensures { result ≡ min (spec.in_last f.now) 18446744073709551615 }
 {
     match f {

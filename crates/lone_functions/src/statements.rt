@@ -114,12 +114,12 @@ impl Anew {
     }
 
     #[cycle(statement_copies)]
-    fn handler(&self, c: &Option<Catch>) -> Result<Option<Catch>, NoMemory>
+    fn handler(&self, c: &Option<Box<Catch>>) -> Result<Option<Box<Catch>>, NoMemory>
         ensures { IfOk result (λ copy. copy ≡ option_map (spec.catch self.now.first) c.now) }
     {
         match c {
             None => Ok(None),
-            Some(c) => Ok(Some(self.catch(c)?)),
+            Some(c) => Ok(Some(Box::new(self.alloc, self.catch(c)?)?)),
         }
     }
 
@@ -135,12 +135,12 @@ impl Anew {
     }
 
     #[cycle(statement_copies)]
-    fn last(&self, f: &Option<Finally>) -> Result<Option<Finally>, NoMemory>
+    fn last(&self, f: &Option<Box<Finally>>) -> Result<Option<Box<Finally>>, NoMemory>
         ensures { IfOk result (λ copy. copy ≡ option_map (spec.final self.now.first) f.now) }
     {
         match f {
             None => Ok(None),
-            Some(f) => Ok(Some(self.finally(f)?)),
+            Some(f) => Ok(Some(Box::new(self.alloc, self.finally(f)?)?)),
         }
     }
 
@@ -192,13 +192,13 @@ impl Anew {
             )),
             StmtForm::While(test, body) => Ok(StmtForm::While(self.expr(test)?, self.stmt(body)?)),
             StmtForm::For(from, test, step, body) => Ok(StmtForm::For(
-                self.for_start(from)?,
-                self.maybe(test)?,
-                self.maybe(step)?,
+                Box::new(self.alloc, self.for_start(from)?)?,
+                Box::new(self.alloc, self.maybe(test)?)?,
+                Box::new(self.alloc, self.maybe(step)?)?,
                 self.stmt(body)?,
             )),
             StmtForm::ForIn(to, object, body) => {
-                Ok(StmtForm::ForIn(self.for_target(to)?, self.expr(object)?, self.stmt(body)?))
+                Ok(StmtForm::ForIn(Box::new(self.alloc, self.for_target(to)?)?, self.expr(object)?, self.stmt(body)?))
             }
             StmtForm::Continue => Ok(StmtForm::Continue),
             StmtForm::Break => Ok(StmtForm::Break),

@@ -6,7 +6,7 @@ ghost use Rattle.readable_trees.specs.Items as spec;
 use js_tree::{
     Case, Catch, Declarator, Expr, ExprForm, Field, Finally, ForStart, ForTarget, Stmt, StmtForm,
 };
-use js_value::{FuncNo, Kind, NoMemory, Text};
+use js_value::{Box, FuncNo, Kind, NoMemory, Text};
 
 /// What of code stands for more than itself: a function by its number, and an input.
 #[derive(Clone, Copy)]
@@ -184,7 +184,7 @@ fn in_case<'a>(c: &'a Case, items: &mut Vec<Item<'a>>) -> Result<(), NoMemory>
 }
 
 #[cycle(stmt_items)]
-fn in_handler<'a>(handler: &'a Option<Catch>, items: &mut Vec<Item<'a>>) -> Result<(), NoMemory>
+fn in_handler<'a>(handler: &'a Option<Box<Catch>>, items: &mut Vec<Item<'a>>) -> Result<(), NoMemory>
     ensures { OnOk result (spec.told items.new.items ≡ spec.told items.old.items ++ spec.in_handler handler.now) }
 {
     match handler {
@@ -201,7 +201,7 @@ fn in_catch<'a>(c: &'a Catch, items: &mut Vec<Item<'a>>) -> Result<(), NoMemory>
 }
 
 #[cycle(stmt_items)]
-fn in_last<'a>(last: &'a Option<Finally>, items: &mut Vec<Item<'a>>) -> Result<(), NoMemory>
+fn in_last<'a>(last: &'a Option<Box<Finally>>, items: &mut Vec<Item<'a>>) -> Result<(), NoMemory>
     ensures { OnOk result (spec.told items.new.items ≡ spec.told items.old.items ++ spec.in_last last.now) }
 {
     match last {

@@ -13,7 +13,7 @@ use crate::words::is_identifier;
 use js_tree::{
     Case, Catch, Declarator, Expr, Finally, ForStart, ForTarget, Func, Name, Script, Stmt, StmtForm,
 };
-use js_value::FuncNo;
+use js_value::{Box, FuncNo};
 
 impl Code<'_> {
     /// Whether a function declaration has a name (13).
@@ -81,7 +81,7 @@ fn defaults(all: &[Case]) -> usize
 }
 
 /// Whether a `try` has a handler or a last part (12.14).
-fn has_end(handler: &Option<Catch>, last: &Option<Finally>) -> bool
+fn has_end(handler: &Option<Box<Catch>>, last: &Option<Box<Finally>>) -> bool
     ensures { result ≡ (is_some handler.now || is_some last.now) }
 {
     handler.is_some() || last.is_some()
@@ -177,7 +177,7 @@ impl Code<'_> {
     }
 
     #[cycle(is_stmt)]
-    fn is_handler(&self, handler: &Option<Catch>) -> bool
+    fn is_handler(&self, handler: &Option<Box<Catch>>) -> bool
         ensures { result ≡ ends.in_handler self.now.functions.now handler.now }
     {
         match handler {
@@ -187,7 +187,7 @@ impl Code<'_> {
     }
 
     #[cycle(is_stmt)]
-    fn is_last(&self, last: &Option<Finally>) -> bool
+    fn is_last(&self, last: &Option<Box<Finally>>) -> bool
         ensures { result ≡ ends.in_last self.now.functions.now last.now }
     {
         match last {

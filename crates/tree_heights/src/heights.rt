@@ -9,7 +9,7 @@ use js_tree::{
     Case, Catch, Declarator, Expr, ExprForm, Field, Finally, ForStart, ForTarget, Func, Stmt,
     StmtForm,
 };
-use js_value::FuncNo;
+use js_value::{Box, FuncNo};
 
 #[cycle(heights)]
 fn are_within(functions: &[Func], n: u32, all: &[Expr]) -> bool
@@ -243,7 +243,7 @@ fn are_cases_within(functions: &[Func], n: u32, all: &[Case]) -> bool
 }
 
 #[cycle(heights)]
-fn is_handler_within(functions: &[Func], n: u32, handler: &Option<Catch>) -> bool
+fn is_handler_within(functions: &[Func], n: u32, handler: &Option<Box<Catch>>) -> bool
     ensures { result ≡ within.handler functions.now n handler.now }
 {
     match handler {
@@ -253,7 +253,7 @@ fn is_handler_within(functions: &[Func], n: u32, handler: &Option<Catch>) -> boo
 }
 
 #[cycle(heights)]
-fn is_last_within(functions: &[Func], n: u32, last: &Option<Finally>) -> bool
+fn is_last_within(functions: &[Func], n: u32, last: &Option<Box<Finally>>) -> bool
     ensures { result ≡ within.last functions.now n last.now }
 {
     match last {
