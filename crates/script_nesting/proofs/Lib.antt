@@ -3,3 +3,4 @@ pub mod Printed
 pub mod Equations
 pub mod Agree
 pub mod Stable
+pub mod Opening
