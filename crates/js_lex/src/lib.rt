@@ -5,8 +5,6 @@ mod characters;
 mod comments;
 mod numbers;
 mod strings;
-#[cfg(test)]
-mod tests;
 mod tokens;
 mod words;
 

@@ -5,7 +5,5 @@ mod expressions;
 mod functions;
 mod leftmost;
 mod statements;
-#[cfg(test)]
-mod tests;
 
 pub use functions::{code_text, print};

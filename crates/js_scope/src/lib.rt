@@ -10,8 +10,6 @@ mod mention;
 mod names;
 mod properties;
 mod statements;
-#[cfg(test)]
-mod tests;
 mod walk;
 
 pub use early::check;

@@ -10,8 +10,6 @@ mod expression;
 mod flat;
 mod refusal;
 mod statement;
-#[cfg(test)]
-mod tests;
 mod token;
 mod weights;
 

@@ -1,1 +1,2 @@
 pub mod OperatorCases
+pub mod SpelledNumbers

@@ -4,3 +4,4 @@ pub mod Texts
 pub mod Conversions
 pub mod Operators
 pub mod OperatorCases
+pub mod Answers

@@ -1,9 +1,11 @@
 -- Operators on values that are no objects (11): one table from an operator and its operands to a value, or to the cause for
 -- leaving the profile where the standard gives no value of the profile. Operands are converted from left to right.
-use Rattle.std.specs.Prelude.{◌^◌, ◌%◌, ◌++◌, ℕ, ℤ, pos, neg_ℤ, ◌-ℤ◌, ◌*ℤ◌, unsigned_abs, bit_and, bit_or, bit_xor, int_lt, int_le, int_div, int_rem, Bool, true, false, not, nat_le, ◌&&◌, ◌||◌, if◌then◌else◌, List, length, codes, Option, Some, None, Result, Ok, Err}
+use Rattle.std.specs.Prelude.{◌^◌, ◌%◌, ◌++◌, ℕ, ℤ, pos, neg_ℤ, ◌-ℤ◌, ◌*ℤ◌, unsigned_abs, bit_and, bit_or, bit_xor, int_lt, int_div, int_rem, Bool, true, false, not, nat_le, ◌&&◌, ◌||◌, if◌then◌else◌, List, length, codes, Option, Some, None, Result, Ok, Err}
 use Rattle.std.specs.Cmp.Lexicographic.{slice_cmp}
 use Rattle.std.specs.Int.{int_div_euclid}
-use Rattle.std.specs.Ordering.{int_eq, is_lt, is_le, is_gt, is_ge, nat_cmp}
+use Rattle.std.specs.Option.{option_map, option_or}
+use Rattle.std.specs.declared.cmp.Ordering.{Ordering}
+use Rattle.std.specs.Ordering.{int_cmp, int_eq, is_lt, is_le, is_gt, is_ge, nat_cmp}
 use Rattle.js_value.specs.Numbers.{added, subtracted, negated, within}
 use Rattle.js_value.specs.Conversions.{◌>>=◌, to_boolean, to_number, to_text, uint32, int32, signed32, is_same_value}
 use Rattle.js_value.specs.declared.operator.BinaryOp.{BinaryOp}
@@ -97,28 +99,17 @@ bitwise operation x y = Ok (signed32 (pos (operation (bits32 x) (bits32 y))))
 -- ---- 11.8: relational operators
 
 -- 11.8.5: two strings are compared by their units, everything else by numbers
-abbrev pub relation : (List ℕ → List ℕ → Bool) → (ℤ → ℤ → Bool) → Primitive → Primitive → Entry
-relation of_texts of_numbers (Text s) (Text t) = truth (of_texts s t)
-relation of_texts of_numbers a b = do
+unfoldable pub compared : Primitive → Primitive → Result Ordering Why
+compared (Text s) (Text t) = Ok (slice_cmp nat_cmp s t)
+compared a b = do
   x ← to_number a
   y ← to_number b
-  truth (of_numbers x y)
+  Ok (int_cmp x y)
 
--- 11.8.1
-unfoldable pub less : Primitive → Primitive → Entry
-less = relation (λ s t. is_lt (slice_cmp nat_cmp s t)) (λ x y. int_lt x y)
-
--- 11.8.2
-unfoldable pub greater : Primitive → Primitive → Entry
-greater = relation (λ s t. is_gt (slice_cmp nat_cmp s t)) (λ x y. int_lt y x)
-
--- 11.8.3
-unfoldable pub less_or_equal : Primitive → Primitive → Entry
-less_or_equal = relation (λ s t. is_le (slice_cmp nat_cmp s t)) (λ x y. int_le x y)
-
--- 11.8.4
-unfoldable pub greater_or_equal : Primitive → Primitive → Entry
-greater_or_equal = relation (λ s t. is_ge (slice_cmp nat_cmp s t)) (λ x y. int_le y x)
+abbrev pub relation : (Ordering → Bool) → Primitive → Primitive → Result Bool Why
+relation holds a b = do
+  o ← compared a b
+  Ok (holds o)
 
 -- ---- 11.9: equality operators
 
@@ -155,45 +146,53 @@ loosely_equal a b = equal_plain a b
 abbrev pub strictly_equal : Primitive → Primitive → Bool
 strictly_equal = is_same_value
 
--- 11.9.1
-abbrev pub equal : Primitive → Primitive → Entry
-equal a b = do
-  t ← loosely_equal a b
-  truth t
-
 -- 11.9.2
-abbrev pub not_equal : Primitive → Primitive → Entry
-not_equal a b = do
+abbrev pub not_loosely_equal : Primitive → Primitive → Result Bool Why
+not_loosely_equal a b = do
   t ← loosely_equal a b
-  truth (not t)
+  Ok (not t)
 
 -- ---- the operators with two operands
 
+-- those on two numbers
+unfoldable pub number_row : BinaryOp → Option (ℤ → ℤ → Result ℤ Why)
+number_row binary.Sub = Some subtracted
+number_row binary.Mul = Some multiplied
+number_row binary.Div = Some divided
+number_row binary.Rem = Some remainder
+number_row binary.Shl = Some shifted_left
+number_row binary.Sar = Some shifted_right
+number_row binary.Shr = Some shifted_right_unsigned
+number_row binary.BitAnd = Some (bitwise bit_and)
+number_row binary.BitOr = Some (bitwise bit_or)
+number_row binary.BitXor = Some (bitwise bit_xor)
+number_row _ = None
+
+-- those that tell whether something holds
+unfoldable pub truth_row : BinaryOp → Option (Primitive → Primitive → Result Bool Why)
+-- 11.8.1 to 11.8.4
+truth_row binary.Less = Some (relation is_lt)
+truth_row binary.Greater = Some (relation is_gt)
+truth_row binary.LessEqual = Some (relation is_le)
+truth_row binary.GreaterEqual = Some (relation is_ge)
+-- 11.9.1, 11.9.2
+truth_row binary.Equal = Some loosely_equal
+truth_row binary.NotEqual = Some not_loosely_equal
+-- 11.9.4, 11.9.5
+truth_row binary.Same = Some (λ a b. Ok (strictly_equal a b))
+truth_row binary.NotSame = Some (λ a b. Ok (not (strictly_equal a b)))
+truth_row _ = None
+
+abbrev pub telling : (Primitive → Primitive → Result Bool Why) → Primitive → Primitive → Entry
+telling tells a b = do
+  t ← tells a b
+  truth t
+
 -- The row of an operator. `in` and `instanceof` have none: they look into objects (11.8.6, 11.8.7).
 unfoldable pub binary_row : BinaryOp → Option (Primitive → Primitive → Entry)
+unfolding number_row truth_row compared
 binary_row binary.Add = Some add
-binary_row binary.Sub = Some (numeric subtracted)
-binary_row binary.Mul = Some (numeric multiplied)
-binary_row binary.Div = Some (numeric divided)
-binary_row binary.Rem = Some (numeric remainder)
-binary_row binary.Shl = Some (numeric shifted_left)
-binary_row binary.Sar = Some (numeric shifted_right)
-binary_row binary.Shr = Some (numeric shifted_right_unsigned)
-binary_row binary.BitAnd = Some (numeric (bitwise bit_and))
-binary_row binary.BitOr = Some (numeric (bitwise bit_or))
-binary_row binary.BitXor = Some (numeric (bitwise bit_xor))
-binary_row binary.Less = Some less
-binary_row binary.Greater = Some greater
-binary_row binary.LessEqual = Some less_or_equal
-binary_row binary.GreaterEqual = Some greater_or_equal
-binary_row binary.Equal = Some equal
-binary_row binary.NotEqual = Some not_equal
--- 11.9.4
-binary_row binary.Same = Some (λ a b. truth (strictly_equal a b))
--- 11.9.5
-binary_row binary.NotSame = Some (λ a b. truth (not (strictly_equal a b)))
-binary_row binary.In = None
-binary_row binary.InstanceOf = None
+binary_row op = option_or (option_map numeric (number_row op)) (option_map telling (truth_row op))
 
 -- ---- 11.4: the operators with one operand
 

@@ -8,7 +8,8 @@ use itoa::Buffer;
 /// The greatest number of the profile, 2^53 - 1. The least is its negation.
 pub const GREATEST_NUMBER: i64 = 9_007_199_254_740_991;
 
-fn within(sum: Option<i64>) -> Result<i64, Why>
+/// The number, where the profile has it.
+pub fn within(sum: Option<i64>) -> Result<i64, Why>
     ensures { result ≡ spec.within_option sum }
 {
     match sum {

@@ -155,7 +155,7 @@ module _ (function : Bool → FuncNo → List Piece) (functions : FunctionsRun f
   parts d below (ExprForm-F.Input k us) few is = is
   parts d below (ExprForm-F.HostCall k us args) few is =
       let p = and_parts (is_readable_text us) (are_readable (map (R.in_expr funcs) args)) is in
-      (p.0, values d below args few p.1)
+      (p.0, values d below args (omega arith) p.1)
 
   all : (d : ℕ) → AllPrint d
   all zero e few is = let n = by_layer ℕ ℕ ℕ count.of_form count.of_field count.of_expr e (out-ExprForm e.form) refl in absurd (omega (arith, n, few))

@@ -8,8 +8,6 @@ mod anew;
 mod lone;
 mod named;
 mod statements;
-#[cfg(test)]
-mod tests;
 
 pub use lone::alone;
 

@@ -10,4 +10,8 @@ mod long_texts;
 #[cfg(test)]
 mod rows;
 #[cfg(test)]
+mod sheets;
+#[cfg(test)]
 mod statements;
+#[cfg(test)]
+mod strict;

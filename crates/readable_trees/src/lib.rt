@@ -7,8 +7,6 @@ mod items;
 mod order;
 mod script;
 mod statements;
-#[cfg(test)]
-mod tests;
 mod words;
 
 pub use script::is_readable;

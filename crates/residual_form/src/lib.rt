@@ -12,8 +12,6 @@ mod made;
 mod paths;
 mod sought;
 mod statements;
-#[cfg(test)]
-mod tests;
 mod values;
 mod words;
 

@@ -5,8 +5,6 @@ mod bound;
 mod code_line;
 mod page;
 mod sheet;
-#[cfg(test)]
-mod tests;
 mod words;
 
 pub use code_line::CodeLine;

@@ -1,0 +1,5 @@
+//! Tokens of short texts, as tests.
+#![tactic(auto)]
+
+#[cfg(test)]
+mod tokens;
