@@ -1,5 +1,5 @@
 -- What is still to be read, by what waits for an operand.
-use Rattle.std.specs.Prelude.{◌≡◌, ◌≢◌, ◌+◌, ◌<◌, ℕ, ◌&&◌, if◌then◌else◌, Bool, true, false, List, [], ◌∷◌, ◌++◌, drop, Option, Some, None, is_some, Result, Ok, Err}
+use Rattle.std.specs.Prelude.{◌≡◌, ◌≢◌, ◌+◌, ◌*◌, ◌<◌, ℕ, ◌&&◌, if◌then◌else◌, Bool, true, false, List, [], ◌∷◌, ◌++◌, drop, length, Option, Some, None, is_some, Result, Ok, Err}
 use Rattle.js_value.specs.declared.place.Place.{Place}
 use Rattle.js_tree.specs.declared.expression.Expr.{Expr}
 use Rattle.js_tree.specs.declared.expression.ExprForm.TheVariants as e
@@ -7,6 +7,7 @@ use Rattle.js_tree.specs.declared.expression.Field.{Field}
 use Rattle.js_tree.specs.declared.expression.Field.TheVariants as field
 use Rattle.js_tree.specs.declared.refusal.ReadRefused.{ReadRefused}
 use Rattle.js_tree.specs.declared.refusal.ReadRefused.TheVariants.{NoMemory}
+use Rattle.js_tree.specs.declared.token.Token.{Token}
 use Rattle.js_grammar.specs.Rest.{Rest, Reading, ◌>>=◌, ◌>>◌, give, next, expect, repeat, part, finish, on_later_line}
 use Rattle.js_grammar.specs.Climbing.{levels, rest}
 use Rattle.js_grammar.specs.Expressions as E
@@ -200,6 +201,9 @@ IsPart m other s t (Ok None) = (m s ≡ other s) × (t ≡ s)
 IsPart m other s t (Err d) = d ≢ NoMemory → m s ≡ Err d
 
 -- ---- how much is left to do
+
+abbrev pub work : List Token → List Frame → ℕ
+work tokens frames = 3 * length tokens + 2 * length frames
 
 abbrev pub rank : Stage → ℕ
 rank (stage.Operand x) = 1

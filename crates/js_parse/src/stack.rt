@@ -1,13 +1,13 @@
 //! Operands and operators (11.1 to 11.11), by a stack of what waits for an operand.
 
-ghost use Rattle.std.specs.Prelude.{◌≡◌, ◌<◌, ◌≤◌, ◌+◌, ◌*◌, length, IfOk, IfSome};
+ghost use Rattle.std.specs.Prelude.{◌≡◌, ◌<◌, ◌≤◌, ◌+◌, length, IfOk, IfSome};
 ghost use Rattle.js_grammar.specs.Expressions as expressions;
 ghost use Rattle.js_grammar.specs.Primary as primary;
 ghost use Rattle.js_grammar.specs.Reading.{grammar};
 ghost use Rattle.js_parse.specs.declared.frames.Frame.TheVariants as frame;
 ghost use Rattle.js_parse.specs.declared.frames.Stage.TheVariants as stage;
 ghost use Rattle.js_parse.specs.Frames as frames;
-ghost use Rattle.js_parse.specs.Frames.{behind_first, field_on, keyed_on, operand_on, rank, read_on, Falls, IsNext, IsPart, IsReached, IsStage};
+ghost use Rattle.js_parse.specs.Frames.{behind_first, field_on, keyed_on, operand_on, rank, read_on, work, Falls, IsNext, IsPart, IsReached, IsStage};
 ghost use Rattle.token_reader.specs.Reader.{rest_of, IsAnswer};
 
 use crate::frames::{First, Frame, Frames, Literal, Next, Open, Reached, Stage};
@@ -78,7 +78,7 @@ impl<'a> Parser<'a> {
     #[tactic(auto, using(crate::proofs::Steps::key_begins))]
     fn key(&mut self, frames: &mut Frames, at: Place, so_far: Fields) -> Result<Stage, ReadRefused>
         ensures answer { IsStage (keyed_on at so_far frames.old) (rest_of self.old.reader) frames.new (rest_of self.new.reader) result }
-        ensures less { IfOk result (λ st. 3 * length self.new.reader.rest.now + 2 * length frames.new + rank st < 3 * length self.old.reader.rest.now + 2 * length frames.old) }
+        ensures less { IfOk result (λ st. work self.new.reader.rest.now frames.new + rank st < work self.old.reader.rest.now frames.old) }
         ensures within { length self.new.reader.rest.now ≤ length self.old.reader.rest.now }
     {
         let key_at = self.reader.here();
@@ -123,7 +123,7 @@ impl<'a> Parser<'a> {
         mut so_far: Fields,
     ) -> Result<Stage, ReadRefused>
         ensures answer { IsStage (field_on at so_far frames.old) (rest_of self.old.reader) frames.new (rest_of self.new.reader) result }
-        ensures less { IfOk result (λ st. 3 * length self.new.reader.rest.now + 2 * length frames.new + rank st < 3 * length self.old.reader.rest.now + 2 * length frames.old) }
+        ensures less { IfOk result (λ st. work self.new.reader.rest.now frames.new + rank st < work self.old.reader.rest.now frames.old) }
         ensures within { length self.new.reader.rest.now ≤ length self.old.reader.rest.now }
     {
         match self.accessor_field()? {
@@ -145,7 +145,7 @@ impl<'a> Parser<'a> {
         so_far: Fields,
     ) -> Result<Stage, ReadRefused>
         ensures answer { IsStage (read_on (stage.Fields at so_far) frames.old) (rest_of self.old.reader) frames.new (rest_of self.new.reader) result }
-        ensures less { IfOk result (λ st. 3 * length self.new.reader.rest.now + 2 * length frames.new + rank st < 3 * length self.old.reader.rest.now + 2 * length frames.old) }
+        ensures less { IfOk result (λ st. work self.new.reader.rest.now frames.new + rank st < work self.old.reader.rest.now frames.old) }
         ensures within { length self.new.reader.rest.now ≤ length self.old.reader.rest.now }
     {
         if self.reader.take(Punctuator::RightBrace) {
@@ -185,7 +185,7 @@ impl<'a> Parser<'a> {
     #[tactic(auto, using(crate::proofs::Steps::begins_operand, crate::proofs::Steps::stage_by))]
     pub fn begin_unary(&mut self, frames: &mut Frames) -> Result<Stage, ReadRefused>
         ensures answer { IsStage (read_on stage.Begin frames.old) (rest_of self.old.reader) frames.new (rest_of self.new.reader) result }
-        ensures less { IfOk result (λ st. 3 * length self.new.reader.rest.now + 2 * length frames.new + rank st < 3 * length self.old.reader.rest.now + 2 * length frames.old) }
+        ensures less { IfOk result (λ st. work self.new.reader.rest.now frames.new + rank st < work self.old.reader.rest.now frames.old) }
         ensures left { IfOk result (λ _. length self.new.reader.rest.now < length self.old.reader.rest.now) }
         ensures within { length self.new.reader.rest.now ≤ length self.old.reader.rest.now }
     {
@@ -202,7 +202,7 @@ impl<'a> Parser<'a> {
     #[tactic(auto, using(crate::proofs::Steps::begins_new, crate::proofs::Steps::begins_object))]
     pub fn begin_operand(&mut self, frames: &mut Frames) -> Result<Stage, ReadRefused>
         ensures answer { IsStage (operand_on frames.old) (rest_of self.old.reader) frames.new (rest_of self.new.reader) result }
-        ensures less { IfOk result (λ st. 3 * length self.new.reader.rest.now + 2 * length frames.new + rank st < 3 * length self.old.reader.rest.now + 2 * length frames.old) }
+        ensures less { IfOk result (λ st. work self.new.reader.rest.now frames.new + rank st < work self.old.reader.rest.now frames.old) }
         ensures left { IfOk result (λ _. length self.new.reader.rest.now < length self.old.reader.rest.now) }
         ensures within { length self.new.reader.rest.now ≤ length self.old.reader.rest.now }
     {
@@ -220,7 +220,7 @@ impl<'a> Parser<'a> {
     #[cycle(reading)]
     pub fn behind_operand(&mut self, frames: &mut Frames, x: Expr) -> Result<Stage, ReadRefused>
         ensures answer { IsStage (read_on (stage.Operand x) frames.old) (rest_of self.old.reader) frames.new (rest_of self.new.reader) result }
-        ensures less { IfOk result (λ st. 3 * length self.new.reader.rest.now + 2 * length frames.new + rank st < 3 * length self.old.reader.rest.now + 2 * length frames.old + 1) }
+        ensures less { IfOk result (λ st. work self.new.reader.rest.now frames.new + rank st < work self.old.reader.rest.now frames.old + 1) }
         ensures within { length self.new.reader.rest.now ≤ length self.old.reader.rest.now }
     {
         match frames.callee() {
@@ -257,7 +257,7 @@ impl<'a> Parser<'a> {
     #[cycle(reading)]
     pub fn behind_operators(&mut self, frames: &mut Frames, x: Expr) -> Result<Next, ReadRefused>
         ensures answer { IsNext (behind_first frames.old x) (rest_of self.old.reader) frames.new (rest_of self.new.reader) result }
-        ensures less { IfOk result (λ next. Falls (3 * length self.new.reader.rest.now + 2 * length frames.new) (3 * length self.old.reader.rest.now + 2 * length frames.old) next) }
+        ensures less { IfOk result (λ next. Falls (work self.new.reader.rest.now frames.new) (work self.old.reader.rest.now frames.old) next) }
         ensures within { length self.new.reader.rest.now ≤ length self.old.reader.rest.now }
     {
         match frames.pop() {
@@ -280,7 +280,7 @@ impl<'a> Parser<'a> {
     #[cycle(reading)]
     pub fn behind_unary(&mut self, frames: &mut Frames, x: Expr) -> Result<Next, ReadRefused>
         ensures answer { IsNext (read_on (stage.Unary x) frames.old) (rest_of self.old.reader) frames.new (rest_of self.new.reader) result }
-        ensures less { IfOk result (λ next. Falls (3 * length self.new.reader.rest.now + 2 * length frames.new) (3 * length self.old.reader.rest.now + 2 * length frames.old) next) }
+        ensures less { IfOk result (λ next. Falls (work self.new.reader.rest.now frames.new) (work self.old.reader.rest.now frames.old) next) }
         ensures within { length self.new.reader.rest.now ≤ length self.old.reader.rest.now }
     {
         let Some((least, allows_in)) = frames.level() else {
@@ -305,7 +305,7 @@ impl<'a> Parser<'a> {
     #[cycle(reading)]
     pub fn turn(&mut self, frames: &mut Frames, stage: Stage) -> Result<Next, ReadRefused>
         ensures answer { IsNext (read_on stage frames.old) (rest_of self.old.reader) frames.new (rest_of self.new.reader) result }
-        ensures less { IfOk result (λ next. Falls (3 * length self.new.reader.rest.now + 2 * length frames.new) (3 * length self.old.reader.rest.now + 2 * length frames.old + rank stage) next) }
+        ensures less { IfOk result (λ next. Falls (work self.new.reader.rest.now frames.new) (work self.old.reader.rest.now frames.old + rank stage) next) }
         ensures within { length self.new.reader.rest.now ≤ length self.old.reader.rest.now }
     {
         match stage {

@@ -7,7 +7,7 @@ use Rattle.js_grammar.specs.Statements as S
 use Rattle.js_grammar.specs.Reading.{grammar}
 use Rattle.js_grammar.specs.Rest.{repeat}
 use Rattle.js_parse.specs.declared.frames.Stage.TheVariants as st
-use Rattle.js_parse.specs.Frames.{rank, read_on}
+use Rattle.js_parse.specs.Frames.{rank, read_on, work}
 use Rattle.token_reader.specs.Reader.{rest_of, closed_by}
 use Rattle.js_parse.proofs.parser.Parser.+reading.Given as goal
 
@@ -276,7 +276,7 @@ invariant-run-turn l = record {
 }
 
 abbrev pub decreases-run-turn : goal.decreases-run-turn
-decreases-run-turn l = 3 * length l.self.reader.rest.now + 2 * length l.frames + rank l.stage
+decreases-run-turn l = work l.self.reader.rest.now l.frames + rank l.stage
 
 abbrev pub invariant-more_elements-turn : goal.invariant-more_elements-turn
 invariant-more_elements-turn l = record {
