@@ -4,4 +4,5 @@ pub mod Faults
 pub mod Repeated
 pub mod Walks
 pub mod Insides
+pub mod Typed
 pub mod Whole

@@ -4,3 +4,5 @@ pub mod Mentioning
 pub mod Properties
 pub mod Functions
 pub mod Checking
+pub mod FirstPlaces
+pub mod Inputs

@@ -5,6 +5,7 @@ mod early;
 mod free;
 mod functions;
 mod hoisting;
+mod inputs;
 mod jumps;
 mod mention;
 mod names;
