@@ -5,4 +5,6 @@ pub mod Repeated
 pub mod Walks
 pub mod Insides
 pub mod Typed
+pub mod Related
+pub mod Firsts
 pub mod Whole

@@ -6,3 +6,4 @@ pub mod Functions
 pub mod Checking
 pub mod FirstPlaces
 pub mod Inputs
+pub mod FreeNames

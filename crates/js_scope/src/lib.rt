@@ -2,6 +2,7 @@
 #![tactic(auto)]
 
 mod early;
+mod first;
 mod free;
 mod functions;
 mod hoisting;
@@ -16,6 +17,6 @@ mod tests;
 mod walk;
 
 pub use early::check;
-pub use free::free_names;
+pub use free::{FreeNames, free_names};
 pub use functions::declared;
 pub use hoisting::{HoistedNames, hoisted};
