@@ -20,3 +20,4 @@ pub use early::check;
 pub use free::{FreeNames, free_names};
 pub use functions::declared;
 pub use hoisting::{HoistedNames, hoisted};
+pub use names::Names;
