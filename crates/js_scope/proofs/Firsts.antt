@@ -1,6 +1,6 @@
 -- Functions that mention each name once have the same free names around them.
 use Rattle.std.proofs.Common.{◌≡◌, ◌<◌, ◌+◌, ◌-◌, ℕ, zero, suc, Bool, true, false, List, [], ◌∷◌, ◌++◌, map, length, drop, get_or, refl, ap, sym, ◌∙◌, subst, arith}
-use Rattle.std.specs.Prelude.{◌||◌, if◌then◌else◌, nat_lt, slice_get, Option, Some, None}
+use Rattle.std.specs.Prelude.{◌||◌, if◌then◌else◌, nat_lt, slice_get, None}
 use Rattle.std.specs.List.{flat_map}
 use Rattle.std.specs.Str.{bytes_eq}
 use Rattle.std.proofs.lemmas.Bool.{le-ltb}

@@ -1,8 +1,7 @@
 -- The least places of the inputs of each type tell which have another type at an earlier place.
-use Rattle.std.proofs.Common.{◌≡◌, ℕ, ◌<◌, ◌≤◌, Bool, true, false, List, [], ◌∷◌, ◌++◌, refl, ap, sym, ◌∙◌, cond, length, take, get_or, ◌+◌, arith}
+use Rattle.std.proofs.Common.{◌≡◌, ℕ, ◌<◌, Bool, true, false, List, [], ◌∷◌, ◌++◌, refl, ap, sym, ◌∙◌, cond, length, take, get_or, ◌+◌, arith}
 use Rattle.std.specs.Prelude.{◌&&◌, ◌||◌, nat_lt, nat_le, Option, Some, None, if◌then◌else◌}
 use Rattle.std.specs.List.{flat_map, list_any}
-use Rattle.std.specs.Map.{lookup}
 use Rattle.std.specs.Str.{bytes_eq}
 use Rattle.std.proofs.lemmas.List.{map_more}
 use Rattle.std.proofs.lemmas.List.Folds.{list_any-append}
@@ -15,10 +14,9 @@ use Rattle.js_tree.specs.Early.{differs, mention_fault, mention_faults}
 use Rattle.js_tree.specs.Mentions as M
 use Rattle.js_tree.specs.Mentions.{Mention, Takes}
 use Rattle.js_tree.specs.declared.refusal.Feature.TheVariants as feature
-use Rattle.js_tree.specs.declared.refusal.ReadRefused.{ReadRefused}
 use Rattle.js_tree.specs.declared.refusal.ReadRefused.TheVariants.{Unsupported}
 use Rattle.js_scope.specs.FirstPlaces.{FirstPlaces}
-use Rattle.js_scope.specs.Inputs.{Notes, fault_by, first_of, is_before, is_retyped, is_upto, is_no_later, no_inputs, stands_before}
+use Rattle.js_scope.specs.Inputs.{Notes, fault_by, first_of, is_before, is_retyped, is_upto, is_no_later, stands_before}
 use Rattle.js_scope.specs.Mentioning.{mention_of, told}
 use Rattle.js_scope.specs.declared.inputs.Inputs.{Inputs}
 use Rattle.js_scope.specs.declared.mention.Mention as D

@@ -1,5 +1,5 @@
 -- The free names of each function of a script, by its number, and how the first mention of each name stands for all mentions.
-use Rattle.std.specs.Prelude.{◌≡◌, ℕ, List, [], ◌∷◌, map, slice_get}
+use Rattle.std.specs.Prelude.{◌≡◌, List, [], ◌∷◌, map, slice_get}
 use Rattle.std.specs.List.{flat_map}
 use Rattle.js_value.specs.declared.place.FuncNo.{FuncNo}
 use Rattle.js_tree.specs.Mentions.{Mention, Inside, Names, distinct, mentioned_name, of_none}

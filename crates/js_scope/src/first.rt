@@ -1,6 +1,6 @@
 //! What functions mention of names that they don't declare, each name once.
 
-ghost use Rattle.std.specs.Prelude.{◌≡◌, ◌++◌, map, IfOk, OnOk};
+ghost use Rattle.std.specs.Prelude.{◌≡◌, map, IfOk, OnOk};
 ghost use Rattle.js_tree.specs.Mentions as tree;
 ghost use Rattle.js_scope.specs.FreeNames as free;
 ghost use Rattle.js_scope.specs.Hoisting as hoisting;

@@ -1,6 +1,6 @@
 use Rattle.std.proofs.Common.{ap, ◌∙◌, sym}
 use Rattle.std.specs.List.{list_all}
-use Rattle.readable_trees.specs.Items.{item_of, told}
+use Rattle.readable_trees.specs.Items.{told}
 use Rattle.readable_trees.specs.Inputs.{are_alike, names_agree_with, names_in}
 use Rattle.readable_trees.proofs.Alike.{alike}
 use Rattle.readable_trees.proofs.InputNames.{names_tell}
