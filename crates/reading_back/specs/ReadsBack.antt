@@ -12,7 +12,7 @@ use Rattle.script_text.specs.Tokens.{shape_of, tokens_from}
 use Rattle.reading_back.specs.Unplaced as unplaced
 
 -- The tokens give a tree that is this script but for places, with every limit that is no less than its nesting; and with any limit
--- they give this tree, or something is nested too deep.
+-- they give this tree, or something is nested too deep, which it is where the limit is less than how many parts are open at once.
 pub record ReadsTo (tokens : Tokens) (s : Script) : Type 0 where
   pub tree : Script
   pub same : unplaced.script tree ≡ unplaced.script s
