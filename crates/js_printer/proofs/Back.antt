@@ -1,6 +1,8 @@
 -- The text of a readable script gives it back.
 use Rattle.std.proofs.Common.{◌≡◌, ◌∙◌, ℕ, Bool, true, false, refl, ap, sym, map}
 use Rattle.std.specs.Prelude.{◌&&◌, None, Result, Ok, Err, IsOkAnd}
+use Rattle.js_value.specs.declared.place.Place.{Place}
+use Rattle.js_tree.specs.declared.refusal.ReadRefused.TheVariants.{Nested}
 use Rattle.js_grammar.specs.Checked.{checked, read_checked, unless_fault}
 use Rattle.js_grammar.specs.Reading.{read}
 use Rattle.js_tree.specs.Early.{early_fault}
@@ -21,6 +23,11 @@ without_fault : (ts : Tokens) (tree : Script) (limit : ℕ) → early_fault tree
 unfolding read_checked
 without_fault ts tree limit none is = ap checked is ∙ ap (unless_fault tree) none
 
+-- what is nested too deep is refused before the early checks
+refused : (ts : Tokens) (limit : ℕ) (at : Place) → read ts limit ≡ Err (Nested at) → read_checked ts limit ≡ Err (Nested at)
+unfolding read_checked
+refused ts limit at is = ap checked is
+
 module _ (early : EarlyBack) (again : ReadableBack) (s : Script) (readable : is_readable s ≡ true) where
   by_tree : (ts : Tokens) → lexed (script_text s) ≡ Ok ts → ReadsTo ts s → GivesBack (script_text s) s
   by_tree ts lexes back =
@@ -31,6 +38,7 @@ module _ (early : EarlyBack) (again : ReadableBack) (s : Script) (readable : is_
         reads = back;
         readable = again s back.tree (sym back.same) readable;
         within = λ limit le. without_fault ts back.tree limit none (back.reads limit le);
+        beyond = λ limit less. let n = back.nested limit less in (n.0, refused ts limit n.0 n.1);
       }
 
   by_tokens : ReadsBack → (r : Result Tokens ReadRefused) → lexed (script_text s) ≡ r

@@ -1,5 +1,7 @@
 -- What it is that printed tokens read back.
-use Rattle.std.specs.Prelude.{◌≡◌, ◌≤◌, ◌<◌, ◌==◌, ◌&&◌, ℕ, suc, ◌+◌, min, Bool, true, false, not, List, [], ◌∷◌, ◌++◌, length, map, drop, slice_get, codes, Option, None}
+use Rattle.js_tree.specs.declared.refusal.ReadRefused.{ReadRefused}
+use Rattle.js_tree.specs.declared.refusal.ReadRefused.TheVariants.{Nested}
+use Rattle.std.specs.Prelude.{Result, Err, ◌≡◌, ◌≤◌, ◌<◌, ◌==◌, ◌&&◌, ℕ, suc, ◌+◌, min, Bool, true, false, not, List, [], ◌∷◌, ◌++◌, length, map, drop, slice_get, codes, Option, None}
 use Rattle.std.specs.List.{list_any}
 use Rattle.std.specs.Option.{option_map}
 use Rattle.js_value.specs.declared.place.FuncNo.{FuncNo}
@@ -104,18 +106,24 @@ pub record Ready {all : World} (w : Frame all) (functions : List Func) (numbers 
 
 -- From here m reads all but the rest and has a value that is wanted, and goes on with it as k does on the rest. The
 -- functions whose numbers stand behind those read come next.
-pub record Leads {all : World} {A B : Type 0} (w : Frame all) (behind : Numbers) (Is : B → Type 0) (c : Spot) (front rest : List Shape) (m : Reading A) (k : B → Reading A) : Type 0 where
+pub record IsNested {A : Type 0} (r : Result (A × Rest) ReadRefused) : Type 0 where
+  pub at : Place
+  pub is : r ≡ Err (Nested at)
+
+-- With this limit or a greater one m does so; with a smaller one something is nested too deep.
+pub record Leads {all : World} {A B : Type 0} (least : ℕ) (w : Frame all) (behind : Numbers) (Is : B → Type 0) (c : Spot) (front rest : List Shape) (m : Reading A) (k : B → Reading A) : Type 0 where
   pub value : B
   pub spot : Spot
-  pub done : m (rest_of w c front) ≡ k value (rest_of w spot rest)
+  pub done : least ≤ w.limit → m (rest_of w c front) ≡ k value (rest_of w spot rest)
+  pub nested : w.opened ≤ w.limit → w.limit < least → IsNested (m (rest_of w c front))
   pub is : Is value
   pub ready : Ready w spot.functions behind
 
 -- With so many parts open the limit is far enough: these pieces read as m does to a value that is wanted, where what stands
 -- behind fits, and their functions come next.
 pub record Read {A B : Type 0} (all : World) (bound : ℕ) (pieces : List Piece) (numbers : Numbers) (Is : B → Type 0) (fits : List Shape → Type 0) (m : Reading A) (k : B → Reading A) : Type 0 where
-  pub at : (w : Frame all) (c : Spot) (line : Bool) (rest : List Shape) (behind : Numbers) → w.opened + bound ≤ w.limit → Ready w c.functions (numbers ++ behind) → fits rest
-      → Leads w behind Is c (tokens_from line pieces ++ rest) rest m k
+  pub at : (w : Frame all) (c : Spot) (line : Bool) (rest : List Shape) (behind : Numbers) → Ready w c.functions (numbers ++ behind) → fits rest
+      → Leads (w.opened + bound) w behind Is c (tokens_from line pieces ++ rest) rest m k
 
 abbrev pub anything : List Shape → Type 0
 anything rest = Unit {0}

@@ -1,5 +1,5 @@
 -- Properties of object literals (11.1.5).
-use Rattle.std.proofs.Common.{◌≡◌, ℕ, suc, Bool, true, false, cond, List, [], ◌∷◌, ◌++◌, refl, ap, sym, ◌∙◌, append_assoc, ◌≤◌}
+use Rattle.std.proofs.Common.{◌≡◌, ℕ, suc, Bool, true, false, cond, List, [], ◌∷◌, ◌++◌, refl, ap, sym, ◌∙◌, append_assoc, ◌≤◌, arith}
 use Rattle.std.specs.Prelude.{◌&&◌, codes, slice_get, Some, None, is_some}
 use Rattle.js_value.specs.declared.place.FuncNo.{FuncNo}
 use Rattle.js_value.specs.declared.place.Place.{Place}
@@ -30,7 +30,7 @@ use Rattle.reading_back.specs.Unplaced as unplaced
 use Rattle.reading_back.proofs.Flowing.{flows_last}
 use Rattle.reading_back.proofs.LooseOperators.{assignment_reads, colon_is}
 use Rattle.reading_back.proofs.Names.{keyed_so}
-use Rattle.reading_back.proofs.Steps.{after, from, on, stays, bind, expected}
+use Rattle.reading_back.proofs.Steps.{exactly, after, from, on, stays, bind, expected}
 
 -- ---- the same but for places
 
@@ -109,8 +109,8 @@ module _ {all : World} {bx : ℕ} {starts : Bool} {px : List Piece} {nx : Number
 
   value_reads : Read all bx pieces nx (IsField f) (below true 2) (P.property grammar) give
   value_reads = record {
-    at = λ w c line rest nz room ready fits.
-        let k : Shape = shape (key_form key) line in
+    at = λ w c line rest nz ready fits.
+        exactly (let k : Shape = shape (key_form key) line in
         let l : Shape = shape (form_of (codes ":")) false in
         let p = (c.supply 0).0 in
         on (ap (λ zs. zs ++ rest) (split line))
@@ -118,8 +118,8 @@ module _ {all : World} {bx : ℕ} {starts : Bool} {px : List Piece} {nx : Number
         (from {d = c} {other = k ∷ l ∷ (tokens_from false px ++ rest)} {n = expect Marks.property_name >>= λ key. expect Marks.colon >> (grammar.assignment true >>= λ x. give (field.Value p key x))} refl
         (expected {c = c} {s = k} Marks.property_name key (λ key. expect Marks.colon >> (grammar.assignment true >>= λ x. give (field.Value p key x))) (key_is key)
         (expected {c = after c k} {s = l} Marks.colon tt (λ _. grammar.assignment true >>= λ x. give (field.Value p key x)) colon_is
-        (bind ((assignment_reads fx).at w (after (after c k) l) false rest nz room ready fits) (λ y d isx done.
-        stays {c = d} (field.Value p key y) give (same_fields (field.Value p key y) f _ _ (field.outs-Value p key y) is (ap (λ z. unplaced.of_field (Field-F.Value p key z)) isx.same)) done))))));
+        (bind ((assignment_reads fx).at w (after (after c k) l) false rest nz ready fits) (λ y d isx done.
+        stays {c = d} (field.Value p key y) give (same_fields (field.Value p key y) f _ _ (field.outs-Value p key y) is (ap (λ z. unplaced.of_field (Field-F.Value p key z)) isx.same)) done))))))) (omega arith);
   }
 
   pub value_part : FieldPart all bx pieces nx f
@@ -164,27 +164,27 @@ module _ {all : World} {function : Bool → FuncNo → List Piece} {inside : Fun
   getter_reads : out-Field f ≡ Field-F.Getter at key g → is_accessor 0 (slice_get all.functions g.0) ≡ true
       → Read all (inside g) (accessor_pieces (codes "get") key (function false g)) (g.0 ∷ []) (IsField f) (below true 2) (P.property grammar) give
   getter_reads is accessor = record {
-    at = λ w c line rest nz room ready fits.
-        let s : Shape = shape (form_of (codes "get")) line in
+    at = λ w c line rest nz ready fits.
+        exactly (let s : Shape = shape (form_of (codes "get")) line in
         let k : Shape = shape (key_form key) false in
         let p = (c.supply (suc 0)).0 in
         on (ap (λ zs. zs ++ rest) (split_accessor (codes "get") key (function false g) line))
         (from {d = after (after c s) k} (getter_starts w c line (key_form key) key (tokens_from false (function false g) ++ rest) (key_is key))
-        (bind ((reads.getter g (c.supply 0).0 short accessor).at w (after (after c s) k) false rest nz room ready tt) (λ h d number done.
-        stays {c = d} (field.Getter p key h) give (same_fields (field.Getter p key h) f _ _ (field.outs-Getter p key h) is (ap (λ z. unplaced.of_field (Field-F.Getter p key z)) number.same)) done)));
+        (bind ((reads.getter g (c.supply 0).0 short accessor).at w (after (after c s) k) false rest nz ready tt) (λ h d number done.
+        stays {c = d} (field.Getter p key h) give (same_fields (field.Getter p key h) f _ _ (field.outs-Getter p key h) is (ap (λ z. unplaced.of_field (Field-F.Getter p key z)) number.same)) done)))) (omega arith);
   }
 
   setter_reads : out-Field f ≡ Field-F.Setter at key g → is_accessor 1 (slice_get all.functions g.0) ≡ true
       → Read all (inside g) (accessor_pieces (codes "set") key (function false g)) (g.0 ∷ []) (IsField f) (below true 2) (P.property grammar) give
   setter_reads is accessor = record {
-    at = λ w c line rest nz room ready fits.
-        let s : Shape = shape (form_of (codes "set")) line in
+    at = λ w c line rest nz ready fits.
+        exactly (let s : Shape = shape (form_of (codes "set")) line in
         let k : Shape = shape (key_form key) false in
         let p = (c.supply (suc 0)).0 in
         on (ap (λ zs. zs ++ rest) (split_accessor (codes "set") key (function false g) line))
         (from {d = after (after c s) k} (setter_starts w c line (key_form key) key (tokens_from false (function false g) ++ rest) (key_is key))
-        (bind ((reads.setter g (c.supply 0).0 short accessor).at w (after (after c s) k) false rest nz room ready tt) (λ h d number done.
-        stays {c = d} (field.Setter p key h) give (same_fields (field.Setter p key h) f _ _ (field.outs-Setter p key h) is (ap (λ z. unplaced.of_field (Field-F.Setter p key z)) number.same)) done)));
+        (bind ((reads.setter g (c.supply 0).0 short accessor).at w (after (after c s) k) false rest nz ready tt) (λ h d number done.
+        stays {c = d} (field.Setter p key h) give (same_fields (field.Setter p key h) f _ _ (field.outs-Setter p key h) is (ap (λ z. unplaced.of_field (Field-F.Setter p key z)) number.same)) done)))) (omega arith);
   }
 
   pub getter_part : out-Field f ≡ Field-F.Getter at key g → is_accessor 0 (slice_get all.functions g.0) ≡ true → FieldPart all (inside g) (accessor_pieces (codes "get") key (function false g)) (g.0 ∷ []) f

@@ -33,7 +33,7 @@ use Rattle.reading_back.proofs.FunctionNumbers.{IsFunc}
 use Rattle.reading_back.proofs.Members.{parenthesis_mark}
 use Rattle.reading_back.proofs.Readability.{both}
 use Rattle.reading_back.proofs.StatementLists.{AreStmts, left_brace_is, right_brace_is}
-use Rattle.reading_back.proofs.Steps.{after, on, become, stays, bind, expected, parted, opens}
+use Rattle.reading_back.proofs.Steps.{exactly, after, on, become, stays, bind, expected, parted, opens}
 
 -- every readable element reads, by the pieces of functions
 abbrev pub ElementsRead : World → (Bool → FuncNo → List Piece) → (FuncNo → ℕ) → Type 0
@@ -84,26 +84,26 @@ brace_ends w d b rest = refl
 
 module _ {all : World} where
   -- elements, and the brace behind them
-  inside_lead : (xs : List (Element all)) (w : Frame all) (c : Spot) (line b : Bool) (rest : List Shape) (nz : Numbers) → w.opened + suc (bounds xs) ≤ w.limit → Ready w c.functions (numbers_all xs ++ nz)
-      → Leads w nz (AreStmts (trees xs)) c (front line xs (shape (form_of (codes "}")) b ∷ rest)) (shape (form_of (codes "}")) b ∷ rest) (part (F.elements grammar (sees Marks.right_brace))) give
+  inside_lead : (xs : List (Element all)) (w : Frame all) (c : Spot) (line b : Bool) (rest : List Shape) (nz : Numbers) → Ready w c.functions (numbers_all xs ++ nz)
+      → Leads (w.opened + suc (bounds xs)) w nz (AreStmts (trees xs)) c (front line xs (shape (form_of (codes "}")) b ∷ rest)) (shape (form_of (codes "}")) b ∷ rest) (part (F.elements grammar (sees Marks.right_brace))) give
   unfolding F.elements
-  inside_lead xs w c line b rest nz room ready =
-      let o = opened xs in
-      parted (omega (arith, room)) o.2 (elements_lead (sees Marks.right_brace) (brace_closes all) xs [] [] true (deeper w) c line (shape (form_of (codes "}")) b ∷ rest) nz (record { same = refl }) (omega (arith, room))
-      (opens c.functions (numbers_all xs ++ nz) ready) (no_else b rest) (λ d. brace_ends (deeper w) d b rest))
+  inside_lead xs w c line b rest nz ready =
+      exactly (let o = opened xs in
+      parted o.2 (elements_lead (sees Marks.right_brace) (brace_closes all) xs [] [] true (deeper w) c line (shape (form_of (codes "}")) b ∷ rest) nz (record { same = refl })
+      (opens c.functions (numbers_all xs ++ nz) ready) (no_else b rest) (λ d. brace_ends (deeper w) d b rest))) (omega arith)
     where
       opened : (xs : List (Element all)) → (s : Shape) × (more : List Shape) × (front line xs (shape (form_of (codes "}")) b ∷ rest) ≡ s ∷ more)
       opened [] = (shape (form_of (codes "}")) b, rest, refl)
       opened (x ∷ xs) = (shape x.part.first.form line, x.part.first.more ++ front true xs (shape (form_of (codes "}")) b ∷ rest), ap (λ zs. zs ++ front true xs (shape (form_of (codes "}")) b ∷ rest)) (x.part.first.is line))
 
-  braces_lead : (xs : List (Element all)) (w : Frame all) (c : Spot) (line b : Bool) (rest : List Shape) (nz : Numbers) → w.opened + suc (bounds xs) ≤ w.limit → Ready w c.functions (numbers_all xs ++ nz)
-      → Leads w nz (AreStmts (trees xs)) c (shape (form_of (codes "{")) false ∷ front line xs (shape (form_of (codes "}")) b ∷ rest)) rest (F.function_body grammar) give
+  braces_lead : (xs : List (Element all)) (w : Frame all) (c : Spot) (line b : Bool) (rest : List Shape) (nz : Numbers) → Ready w c.functions (numbers_all xs ++ nz)
+      → Leads (w.opened + suc (bounds xs)) w nz (AreStmts (trees xs)) c (shape (form_of (codes "{")) false ∷ front line xs (shape (form_of (codes "}")) b ∷ rest)) rest (F.function_body grammar) give
   unfolding F.function_body
-  braces_lead xs w c line b rest nz room ready =
-      let d = after c (shape (form_of (codes "{")) false) in
+  braces_lead xs w c line b rest nz ready =
+      exactly (let d = after c (shape (form_of (codes "{")) false) in
       expected {c = c} {s = shape (form_of (codes "{")) false} Marks.left_brace tt (λ _. part (F.elements grammar (sees Marks.right_brace)) >>= λ body. expect Marks.right_brace >> give body) left_brace_is
-      (bind (inside_lead xs w d line b rest nz room ready) (λ ts f are done.
-      expected {c = f} {s = shape (form_of (codes "}")) b} Marks.right_brace tt (λ _. give ts) right_brace_is (stays ts give are done)))
+      (bind (inside_lead xs w d line b rest nz ready) (λ ts f are done.
+      expected {c = f} {s = shape (form_of (codes "}")) b} Marks.right_brace tt (λ _. give ts) right_brace_is (stays ts give are done)))) (omega arith)
 
 is_empty_more : (t : Stmt) (ts : List Stmt) → is_empty (t ∷ ts) ≡ false
 is_empty_more t ts = let differ : 1 ≤ length (t ∷ ts) = omega arith in grind (arith, nat_tests)
@@ -114,25 +114,25 @@ braced function directive ts = in_braces (is_empty ts && not directive) (code fu
 
 module _ {all : World} (function : Bool → FuncNo → List Piece) (inside : FuncNo → ℕ) (reads : ElementsRead all function inside) where
   code_lead : (ts : List Stmt) (are : readable.are_elements all.functions ts ≡ true) (low : body_height all.tall ts ≤ all.high) (w : Frame all) (c : Spot) (rest : List Shape) (nz : Numbers)
-      → w.opened + suc (depth.of_body function inside ts) ≤ w.limit → Ready w c.functions (in_body ts ++ nz)
-      → Leads w nz (AreStmts ts) c (tokens_from false (braced function false ts) ++ rest) rest (F.function_body grammar) give
-  code_lead [] are low w c rest nz room ready = braces_lead [] w c false false rest nz (omega (arith, room)) ready
-  code_lead (t ∷ ts) are low w c rest nz room ready =
+      → Ready w c.functions (in_body ts ++ nz)
+      → Leads (w.opened + suc (depth.of_body function inside ts)) w nz (AreStmts ts) c (tokens_from false (braced function false ts) ++ rest) rest (F.function_body grammar) give
+  code_lead [] are low w c rest nz ready = exactly (braces_lead [] w c false false rest nz ready) (omega arith)
+  code_lead (t ∷ ts) are low w c rest nz ready =
       let e = elements_of function inside reads (t ∷ ts) are low in
       let there : bounds e.xs ≡ depth.of_body function inside (t ∷ ts) = e.bounds_are in
       let split : tokens_from false (braced function false (t ∷ ts)) ++ rest ≡ shape (form_of (codes "{")) false ∷ front true e.xs (shape (form_of (codes "}")) (line_behind true e.xs) ∷ rest) =
       ap (λ b. tokens_from false (in_braces (b && true) (lines (shown function) (t ∷ ts))) ++ rest) (is_empty_more t ts)
       ∙ ap (λ ps. shape (form_of (codes "{")) false ∷ (tokens_from true (ps ++ end_braces) ++ rest)) (sym e.lines_are)
       ∙ ap (λ zs. shape (form_of (codes "{")) false ∷ zs) (lines_front e.xs true end_braces rest) in
-      on split
+      exactly (on split
       (become (λ b h. subst (λ us. AreStmts us b) e.trees_are h)
-      (braces_lead e.xs w c true (line_behind true e.xs) rest nz (omega (arith, room, there)) (subst (λ ns. Ready w c.functions (ns ++ nz)) (sym e.numbers_are) ready)))
+      (braces_lead e.xs w c true (line_behind true e.xs) rest nz (subst (λ ns. Ready w c.functions (ns ++ nz)) (sym e.numbers_are) ready)))) (omega (arith, there))
 
   pub body_lead : (g : Func) → g.directive ≡ false → (are : readable.are_elements all.functions g.body ≡ true) (low : body_height all.tall g.body ≤ all.high) (w : Frame all) (c : Spot) (rest : List Shape) (nz : Numbers)
-      → w.opened + suc (depth.of_body function inside g.body) ≤ w.limit → Ready w c.functions (in_body g.body ++ nz)
-      → Leads w nz (AreStmts g.body) c (tokens_from false (body function g) ++ rest) rest (F.function_body grammar) give
-  body_lead g plain are low w c rest nz room ready =
-      on (ap (λ d. tokens_from false (braced function d g.body) ++ rest) plain) (code_lead g.body are low w c rest nz room ready)
+      → Ready w c.functions (in_body g.body ++ nz)
+      → Leads (w.opened + suc (depth.of_body function inside g.body)) w nz (AreStmts g.body) c (tokens_from false (body function g) ++ rest) rest (F.function_body grammar) give
+  body_lead g plain are low w c rest nz ready =
+      exactly (on (ap (λ d. tokens_from false (braced function d g.body) ++ rest) plain) (code_lead g.body are low w c rest nz ready)) (omega arith)
 
 -- ---- their ends
 
@@ -175,19 +175,19 @@ module _ {all : World} (function : Bool → FuncNo → List Piece) (inside : Fun
   -- 13: the parameters are read by a rule of their own
   pub function_lead : (g : Func) → g.directive ≡ false → (are : readable.are_elements all.functions g.body ≡ true) (low : body_height all.tall g.body ≤ all.high) (names : Names) (at : Place) (name : Option Name) (params_of : Reading (List Name)) (w : Frame all) (c : Spot)
       (line : Bool) (rest : List Shape) (nz : Numbers) → option_map unplaced.name name ≡ option_map unplaced.name g.name
-      → ((v : Frame all) (d : Spot) (more : List Shape) (mz : Numbers) → Ready v d.functions mz → Leads v mz (AreNames g.params) d (tokens_from false (separated parameter g.params ++ closing (codes ")")) ++ more) more params_of give)
-      → w.opened + suc (depth.of_body function inside g.body) ≤ w.limit → Ready w c.functions (in_body g.body ++ nz)
-      → Leads w nz (IsFunc g) c (tokens_from line (behind_name function names g) ++ rest) rest (F.function_behind grammar at name params_of) give
+      → ((v : Frame all) (d : Spot) (more : List Shape) (mz : Numbers) → Ready v d.functions mz → Leads v.opened v mz (AreNames g.params) d (tokens_from false (separated parameter g.params ++ closing (codes ")")) ++ more) more params_of give)
+      → Ready w c.functions (in_body g.body ++ nz)
+      → Leads (w.opened + suc (depth.of_body function inside g.body)) w nz (IsFunc g) c (tokens_from line (behind_name function names g) ++ rest) rest (F.function_behind grammar at name params_of) give
   unfolding F.function_behind
-  function_lead g plain are low names at name params_of w c line rest nz same params_lead room ready =
-      let d = after c (shape (form_of (codes "(")) line) in
+  function_lead g plain are low names at name params_of w c line rest nz same params_lead ready =
+      exactly (let d = after c (shape (form_of (codes "(")) line) in
       let more = tokens_from false (body function g) ++ rest in
       let o = opened g.params more in
       on (split_function function names g line rest)
       (expected {c = c} {s = shape (form_of (codes "(")) line} Marks.left_parenthesis tt _ left_parenthesis_is
-      (bind (parted {m = params_of} (omega (arith, room)) o.2 (params_lead (deeper w) d more (in_body g.body ++ nz) (opens d.functions (in_body g.body ++ nz) ready))) (λ ps f ares done.
-      bind (body_lead function inside reads g plain are low w f rest nz room done) (λ ts e aret finished.
-      stays {c = e} (record { at = at; name = name; params = ps; directive = false; body = ts }) give (record { same = same_func ps ts same ares aret }) finished))))
+      (bind (parted {m = params_of} o.2 (params_lead (deeper w) d more (in_body g.body ++ nz) (opens d.functions (in_body g.body ++ nz) ready))) (λ ps f ares done.
+      bind (body_lead function inside reads g plain are low w f rest nz done) (λ ts e aret finished.
+      stays {c = e} (record { at = at; name = name; params = ps; directive = false; body = ts }) give (record { same = same_func ps ts same ares aret }) finished))))) (omega arith)
     where
       opened : (ns : List Name) (more : List Shape) → (s : Shape) × (zs : List Shape) × (tokens_from false (separated parameter ns ++ closing (codes ")")) ++ more ≡ s ∷ zs)
       opened [] more = (shape (form_of (codes ")")) false, more, refl)

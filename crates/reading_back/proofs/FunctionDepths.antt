@@ -34,7 +34,7 @@ use Rattle.script_nesting.specs.Opened.{in_function}
 use Rattle.reading_back.proofs.FunctionNames.{AreNames, is_declared, name_lead, parameters_lead, no_parameter_lead, one_parameter_lead}
 use Rattle.reading_back.proofs.FunctionNumbers.{Begins, begins, reading, IsFunc, numbered_lead}
 use Rattle.reading_back.proofs.Readability.{both, not_true}
-use Rattle.reading_back.proofs.Steps.{after, from, on, bind, expected}
+use Rattle.reading_back.proofs.Steps.{exactly, after, from, on, bind, expected}
 
 -- how high trees may be, and the bodies of functions are
 pub record Tops (functions : List Func) : Type 0 where
@@ -81,61 +81,61 @@ module _ (functions : List Func) (tops : Tops functions) (k : ℕ) (function : B
     -- what stands behind the name, read with this name
     behind_lead : (at : Place) (name : Option Name) (params_of : Reading (List Name)) (c : Spot) (line : Bool) (rest : List Shape) → option_map unplaced.name name ≡ option_map unplaced.name g.name
         → ((v : Frame (world functions tops (k + 1))) (d : Spot) (more : List Shape) (mz : Numbers) → Ready v d.functions mz
-        → Leads v mz (AreNames g.params) d (tokens_from false (separated parameter g.params ++ closing (codes ")")) ++ more) more params_of give)
-        → w.opened + bound_of g ≤ w.limit → Ready (reading w f.0) c.functions (in_body g.body ++ nz)
-        → Leads (reading w f.0) nz (IsFunc g) c (tokens_from line (behind_name function names g) ++ rest) rest (F.function_behind grammar at name params_of) give
-    behind_lead at name params_of c line rest same params_lead room ready = function_lead function inside reads g r.plain r.body low names at name params_of (reading w f.0) c line rest nz same params_lead room ready
+        → Leads v.opened v mz (AreNames g.params) d (tokens_from false (separated parameter g.params ++ closing (codes ")")) ++ more) more params_of give)
+        → Ready (reading w f.0) c.functions (in_body g.body ++ nz)
+        → Leads (w.opened + bound_of g) (reading w f.0) nz (IsFunc g) c (tokens_from line (behind_name function names g) ++ rest) rest (F.function_behind grammar at name params_of) give
+    behind_lead at name params_of c line rest same params_lead ready = exactly (function_lead function inside reads g r.plain r.body low names at name params_of (reading w f.0) c line rest nz same params_lead ready) (omega arith)
 
     plain_params : (v : Frame (world functions tops (k + 1))) (d : Spot) (more : List Shape) (mz : Numbers) → Ready v d.functions mz
-        → Leads v mz (AreNames g.params) d (tokens_from false (separated parameter g.params ++ closing (codes ")")) ++ more) more F.parameters give
-    plain_params v d more mz ready = parameters_lead g.params v d more mz r.params ready
+        → Leads v.opened v mz (AreNames g.params) d (tokens_from false (separated parameter g.params ++ closing (codes ")")) ++ more) more F.parameters give
+    plain_params v d more mz ready = exactly (parameters_lead g.params v d more mz r.params ready) (omega arith)
 
-    named_lead : (n : Name) → g.name ≡ Some n → (at : Place) (c : Spot) (rest : List Shape) → w.opened + bound_of g ≤ w.limit → Ready (reading w f.0) c.functions (in_body g.body ++ nz)
-        → Leads (reading w f.0) nz (IsFunc g) c (shape (name_form n.text) false ∷ (tokens_from false (behind_name function names g) ++ rest)) rest
+    named_lead : (n : Name) → g.name ≡ Some n → (at : Place) (c : Spot) (rest : List Shape) → Ready (reading w f.0) c.functions (in_body g.body ++ nz)
+        → Leads (w.opened + bound_of g) (reading w f.0) nz (IsFunc g) c (shape (name_form n.text) false ∷ (tokens_from false (behind_name function names g) ++ rest)) rest
         (F.declared_name >>= λ name. F.function_behind grammar at (Some name) F.parameters) give
-    named_lead n is at c rest room ready =
-        let identifier : is_identifier n.text ≡ true = ap (readable.is_name_or_none functions) (sym is) ∙ r.named in
+    named_lead n is at c rest ready =
+        exactly (let identifier : is_identifier n.text ≡ true = ap (readable.is_name_or_none functions) (sym is) ∙ r.named in
         bind (name_lead n (is_declared n.text identifier) (reading w f.0) c false (tokens_from false (behind_name function names g) ++ rest) (in_body g.body ++ nz) ready) (λ m d same done.
-        behind_lead at (Some m) F.parameters d false rest (ap Some same.same ∙ ap (option_map unplaced.name) (sym is)) plain_params room done)
+        behind_lead at (Some m) F.parameters d false rest (ap Some same.same ∙ ap (option_map unplaced.name) (sym is)) plain_params done)) (omega arith)
 
-    expression_lead : (o : Option Name) → g.name ≡ o → (at : Place) (c : Spot) (rest : List Shape) → w.opened + bound_of g ≤ w.limit → Ready w c.functions (f.0 ∷ nz) → (b : Begins w c.functions f nz) → b.function ≡ g
-        → Leads w nz (IsNumber f) c (tokens_from false (own_name true o ++ behind_name function names g) ++ rest) rest (sees Marks.identifier >>= by_name at) give
-    expression_lead None is at c rest room ready b same =
-        let front = tokens_from false (behind_name function names g) ++ rest in
+    expression_lead : (o : Option Name) → g.name ≡ o → (at : Place) (c : Spot) (rest : List Shape) → Ready w c.functions (f.0 ∷ nz) → (b : Begins w c.functions f nz) → b.function ≡ g
+        → Leads (w.opened + bound_of g) w nz (IsNumber f) c (tokens_from false (own_name true o ++ behind_name function names g) ++ rest) rest (sees Marks.identifier >>= by_name at) give
+    expression_lead None is at c rest ready b same =
+        exactly (let front = tokens_from false (behind_name function names g) ++ rest in
         from {d = c} {other = front} {n = by_name at false} (ap (λ q. by_name at q (rest_of w c front)) no_name)
         (numbered_lead f at (F.function_behind grammar at None F.parameters) c front rest ready b (λ d inside.
-        subst (λ h. Leads (reading w f.0) nz (IsFunc h) d front rest (F.function_behind grammar at None F.parameters) give) (sym same)
-        (behind_lead at None F.parameters d false rest (ap (option_map unplaced.name) (sym is)) plain_params room (subst (λ h. Ready (reading w f.0) d.functions (in_body h.body ++ nz)) same inside))))
-    expression_lead (Some n) is at c rest room ready b same =
-        let front = shape (name_form n.text) false ∷ (tokens_from false (behind_name function names g) ++ rest) in
+        subst (λ h. Leads (w.opened + bound_of g) (reading w f.0) nz (IsFunc h) d front rest (F.function_behind grammar at None F.parameters) give) (sym same)
+        (behind_lead at None F.parameters d false rest (ap (option_map unplaced.name) (sym is)) plain_params (subst (λ h. Ready (reading w f.0) d.functions (in_body h.body ++ nz)) same inside))))) (omega arith)
+    expression_lead (Some n) is at c rest ready b same =
+        exactly (let front = shape (name_form n.text) false ∷ (tokens_from false (behind_name function names g) ++ rest) in
         let identifier : is_identifier n.text ≡ true = ap (readable.is_name_or_none functions) (sym is) ∙ r.named in
         from {d = c} {other = front} {n = by_name at true} (ap (λ q. by_name at (is_some q) (rest_of w c front)) (is_declared n.text identifier).form)
         (numbered_lead f at (F.declared_name >>= λ name. F.function_behind grammar at (Some name) F.parameters) c front rest ready b (λ d inside.
-        subst (λ h. Leads (reading w f.0) nz (IsFunc h) d front rest (F.declared_name >>= λ name. F.function_behind grammar at (Some name) F.parameters) give) (sym same)
-        (named_lead n is at d rest room (subst (λ h. Ready (reading w f.0) d.functions (in_body h.body ++ nz)) same inside))))
+        subst (λ h. Leads (w.opened + bound_of g) (reading w f.0) nz (IsFunc h) d front rest (F.declared_name >>= λ name. F.function_behind grammar at (Some name) F.parameters) give) (sym same)
+        (named_lead n is at d rest (subst (λ h. Ready (reading w f.0) d.functions (in_body h.body ++ nz)) same inside))))) (omega arith)
 
-    declaration_lead : (o : Option Name) → g.name ≡ o → is_some o ≡ true → (at : Place) (c : Spot) (rest : List Shape) → w.opened + bound_of g ≤ w.limit → Ready w c.functions (f.0 ∷ nz) → (b : Begins w c.functions f nz) → b.function ≡ g
-        → Leads w nz (IsNumber f) c (tokens_from false (own_name true o ++ behind_name function names g) ++ rest) rest
+    declaration_lead : (o : Option Name) → g.name ≡ o → is_some o ≡ true → (at : Place) (c : Spot) (rest : List Shape) → Ready w c.functions (f.0 ∷ nz) → (b : Begins w c.functions f nz) → b.function ≡ g
+        → Leads (w.opened + bound_of g) w nz (IsNumber f) c (tokens_from false (own_name true o ++ behind_name function names g) ++ rest) rest
         (numbered at (F.declared_name >>= λ name. F.function_behind grammar at (Some name) F.parameters)) give
-    declaration_lead None is has at c rest room ready b same = absurd (cc)
-    declaration_lead (Some n) is has at c rest room ready b same =
-        let front = shape (name_form n.text) false ∷ (tokens_from false (behind_name function names g) ++ rest) in
+    declaration_lead None is has at c rest ready b same = absurd (cc)
+    declaration_lead (Some n) is has at c rest ready b same =
+        exactly (let front = shape (name_form n.text) false ∷ (tokens_from false (behind_name function names g) ++ rest) in
         numbered_lead f at (F.declared_name >>= λ name. F.function_behind grammar at (Some name) F.parameters) c front rest ready b (λ d inside.
-        subst (λ h. Leads (reading w f.0) nz (IsFunc h) d front rest (F.declared_name >>= λ name. F.function_behind grammar at (Some name) F.parameters) give) (sym same)
-        (named_lead n is at d rest room (subst (λ h. Ready (reading w f.0) d.functions (in_body h.body ++ nz)) same inside)))
+        subst (λ h. Leads (w.opened + bound_of g) (reading w f.0) nz (IsFunc h) d front rest (F.declared_name >>= λ name. F.function_behind grammar at (Some name) F.parameters) give) (sym same)
+        (named_lead n is at d rest (subst (λ h. Ready (reading w f.0) d.functions (in_body h.body ++ nz)) same inside)))) (omega arith)
 
     accessor_lead : (o : Option Name) → g.name ≡ o → is_none o ≡ true → (at : Place) (params_of : Reading (List Name)) (c : Spot) (line : Bool) (rest : List Shape)
         → ((v : Frame (world functions tops (k + 1))) (d : Spot) (more : List Shape) (mz : Numbers) → Ready v d.functions mz
-        → Leads v mz (AreNames g.params) d (tokens_from false (separated parameter g.params ++ closing (codes ")")) ++ more) more params_of give)
-        → w.opened + bound_of g ≤ w.limit → Ready w c.functions (f.0 ∷ nz) → (b : Begins w c.functions f nz) → b.function ≡ g
-        → Leads w nz (IsNumber f) c (tokens_from line (own_name false o ++ behind_name function names g) ++ rest) rest (F.accessor grammar at params_of) give
+        → Leads v.opened v mz (AreNames g.params) d (tokens_from false (separated parameter g.params ++ closing (codes ")")) ++ more) more params_of give)
+        → Ready w c.functions (f.0 ∷ nz) → (b : Begins w c.functions f nz) → b.function ≡ g
+        → Leads (w.opened + bound_of g) w nz (IsNumber f) c (tokens_from line (own_name false o ++ behind_name function names g) ++ rest) rest (F.accessor grammar at params_of) give
     unfolding F.accessor
-    accessor_lead (Some n) is has at params_of c line rest params_lead room ready b same = absurd (cc)
-    accessor_lead None is has at params_of c line rest params_lead room ready b same =
-        let front = tokens_from line (behind_name function names g) ++ rest in
+    accessor_lead (Some n) is has at params_of c line rest params_lead ready b same = absurd (cc)
+    accessor_lead None is has at params_of c line rest params_lead ready b same =
+        exactly (let front = tokens_from line (behind_name function names g) ++ rest in
         numbered_lead f at (F.function_behind grammar at None params_of) c front rest ready b (λ d inside.
-        subst (λ h. Leads (reading w f.0) nz (IsFunc h) d front rest (F.function_behind grammar at None params_of) give) (sym same)
-        (behind_lead at None params_of d line rest (ap (option_map unplaced.name) (sym is)) params_lead room (subst (λ h. Ready (reading w f.0) d.functions (in_body h.body ++ nz)) same inside)))
+        subst (λ h. Leads (w.opened + bound_of g) (reading w f.0) nz (IsFunc h) d front rest (F.function_behind grammar at None params_of) give) (sym same)
+        (behind_lead at None params_of d line rest (ap (option_map unplaced.name) (sym is)) params_lead (subst (λ h. Ready (reading w f.0) d.functions (in_body h.body ++ nz)) same inside)))) (omega arith)
 
 readable_at : (functions gs : List Func) → list_all (readable.is_function functions) gs ≡ true → (n : ℕ) (g : Func) → slice_get gs n ≡ Some g → IsReadable functions g
 readable_at functions [] e n g there = absurd (cc)
@@ -160,10 +160,10 @@ module _ (functions : List Func) (are : list_all (readable.is_function functions
   unfolding function_to
   no_functions k deep = record {
     ends = λ named f before h. subst Flows (sym (append-nil before)) h;
-    expression = λ f at short. record { at = λ w c line rest nz room ready fits. nothing k (none_left k w c.functions f nz deep ready) };
-    declaration = λ f at short has. record { at = λ w c line rest nz room ready fits. nothing k (none_left k w c.functions f nz deep ready) };
-    getter = λ f at short has. record { at = λ w c line rest nz room ready fits. nothing k (none_left k w c.functions f nz deep ready) };
-    setter = λ f at short has. record { at = λ w c line rest nz room ready fits. nothing k (none_left k w c.functions f nz deep ready) };
+    expression = λ f at short. record { at = λ w c line rest nz ready fits. nothing k (none_left k w c.functions f nz deep ready) };
+    declaration = λ f at short has. record { at = λ w c line rest nz ready fits. nothing k (none_left k w c.functions f nz deep ready) };
+    getter = λ f at short has. record { at = λ w c line rest nz ready fits. nothing k (none_left k w c.functions f nz deep ready) };
+    setter = λ f at short has. record { at = λ w c line rest nz ready fits. nothing k (none_left k w c.functions f nz deep ready) };
   }
 
   module _ (k d : ℕ) (deeper : FunctionsRead (world functions tops (k + 1)) (function_to d functions) (in_function d functions)) where
@@ -208,32 +208,32 @@ module _ (functions : List Func) (are : list_all (readable.is_function functions
     expression_read : (f : FuncNo) (at : Place) → tops.tall f ≤ tops.high → Read (world functions tops k) (in_function (suc d) functions f) (word (codes "function") ++ function_to (suc d) functions true f) (f.0 ∷ []) (IsNumber f) anything (F.function_expression grammar at) give
     unfolding F.function_expression
     expression_read f at short = record {
-      at = λ w c line rest nz room ready fits.
+      at = λ w c line rest nz ready fits.
           let b = begins w c.functions f nz ready in
           let g = b.function in
           let h = readable_at functions functions are f.0 g b.there in
           let low = low_body f g b.there short in
           let there : in_function (suc d) functions f ≡ suc (depth.of_body function inside g.body) = bound_is f g b.there in
           let s : Shape = shape (form_of (codes "function")) line in
-          on (function_first f g line rest b.there)
+          exactly (on (function_first f g line rest b.there)
           (expected {c = c} {s = s} Marks.function_word tt (λ _. sees Marks.identifier >>= by_name at) function_word_is
-          (expression_lead functions tops k function inside reads w nz (bound_names true functions g) f g h low g.name refl at (after c s) rest (omega (arith, room, there)) ready b refl));
+          (expression_lead functions tops k function inside reads w nz (bound_names true functions g) f g h low g.name refl at (after c s) rest ready b refl))) (omega (arith, there));
     }
 
     declaration_read : (f : FuncNo) (at : Place) → tops.tall f ≤ tops.high → readable.has_name (slice_get functions f.0) ≡ true
         → Read (world functions tops k) (in_function (suc d) functions f) (word (codes "function") ++ function_to (suc d) functions true f) (f.0 ∷ []) (IsNumber f) anything (F.function_declaration grammar at) give
     unfolding F.function_declaration
     declaration_read f at short has = record {
-      at = λ w c line rest nz room ready fits.
+      at = λ w c line rest nz ready fits.
           let b = begins w c.functions f nz ready in
           let g = b.function in
           let h = readable_at functions functions are f.0 g b.there in
           let low = low_body f g b.there short in
           let there : in_function (suc d) functions f ≡ suc (depth.of_body function inside g.body) = bound_is f g b.there in
           let s : Shape = shape (form_of (codes "function")) line in
-          on (function_first f g line rest b.there)
+          exactly (on (function_first f g line rest b.there)
           (expected {c = c} {s = s} Marks.function_word tt (λ _. numbered at (F.declared_name >>= λ name. F.function_behind grammar at (Some name) F.parameters)) function_word_is
-          (declaration_lead functions tops k function inside reads w nz (bound_names true functions g) f g h low g.name refl (ap readable.has_name (sym b.there) ∙ has) at (after c s) rest (omega (arith, room, there)) ready b refl));
+          (declaration_lead functions tops k function inside reads w nz (bound_names true functions g) f g h low g.name refl (ap readable.has_name (sym b.there) ∙ has) at (after c s) rest ready b refl))) (omega (arith, there));
     }
 
     equal : (m n : ℕ) → (m == n) ≡ true → m ≡ n
@@ -246,31 +246,31 @@ module _ (functions : List Func) (are : list_all (readable.is_function functions
     getter_read : (f : FuncNo) (at : Place) → tops.tall f ≤ tops.high → is_accessor 0 (slice_get functions f.0) ≡ true
         → Read (world functions tops k) (in_function (suc d) functions f) (function_to (suc d) functions false f) (f.0 ∷ []) (IsNumber f) anything (F.accessor grammar at (F.no_parameter grammar)) give
     getter_read f at short has = record {
-      at = λ w c line rest nz room ready fits.
+      at = λ w c line rest nz ready fits.
           let b = begins w c.functions f nz ready in
           let g = b.function in
           let h = readable_at functions functions are f.0 g b.there in
           let low = low_body f g b.there short in
           let there : in_function (suc d) functions f ≡ suc (depth.of_body function inside g.body) = bound_is f g b.there in
           let p = accessor_parts 0 f g b.there has in
-          on (ap (λ ps. tokens_from line ps ++ rest) (is_func false f g b.there))
+          exactly (on (ap (λ ps. tokens_from line ps ++ rest) (is_func false f g b.there))
           (accessor_lead functions tops k function inside reads w nz (bound_names false functions g) f g h low g.name refl p.0 at (F.no_parameter grammar) c line rest (λ v d more mz r. no_parameter_lead g.params v d more mz p.1 r)
-          (omega (arith, room, there)) ready b refl);
+          ready b refl)) (omega (arith, there));
     }
 
     setter_read : (f : FuncNo) (at : Place) → tops.tall f ≤ tops.high → is_accessor 1 (slice_get functions f.0) ≡ true
         → Read (world functions tops k) (in_function (suc d) functions f) (function_to (suc d) functions false f) (f.0 ∷ []) (IsNumber f) anything (F.accessor grammar at (F.one_parameter grammar)) give
     setter_read f at short has = record {
-      at = λ w c line rest nz room ready fits.
+      at = λ w c line rest nz ready fits.
           let b = begins w c.functions f nz ready in
           let g = b.function in
           let h = readable_at functions functions are f.0 g b.there in
           let low = low_body f g b.there short in
           let there : in_function (suc d) functions f ≡ suc (depth.of_body function inside g.body) = bound_is f g b.there in
           let p = accessor_parts 1 f g b.there has in
-          on (ap (λ ps. tokens_from line ps ++ rest) (is_func false f g b.there))
+          exactly (on (ap (λ ps. tokens_from line ps ++ rest) (is_func false f g b.there))
           (accessor_lead functions tops k function inside reads w nz (bound_names false functions g) f g h low g.name refl p.0 at (F.one_parameter grammar) c line rest (λ v d more mz r. one_parameter_lead g.params v d more mz p.1 h.params r)
-          (omega (arith, room, there)) ready b refl);
+          ready b refl)) (omega (arith, there));
     }
 
     one_deeper : FunctionsRead (world functions tops k) (function_to (suc d) functions) (in_function (suc d) functions)

@@ -15,6 +15,7 @@ use Rattle.script_text.specs.Tokens.{Shape}
 use Rattle.reading_back.proofs.Claims.{World, Frame, Spot, Leads, Ready, IsNumber, SameAt, Stands, unread, alike}
 use Rattle.reading_back.specs.Unplaced as unplaced
 use Rattle.reading_back.proofs.Readability.{both}
+use Rattle.reading_back.proofs.Steps.{nested_behind}
 
 -- ---- lists by positions
 
@@ -170,9 +171,9 @@ kept_ready {all = all} w functions n nz g x r there its =
 -- ---- a function with its number
 
 module _ {all : World} {w : Frame all} {nz : Numbers} where
-  pub numbered_lead : (f : FuncNo) (at : Place) (read : Reading Func) (c : Spot) (front rest : List Shape) → Ready w c.functions (f.0 ∷ nz) → (b : Begins w c.functions f nz)
-      → ((d : Spot) → Ready (reading w f.0) d.functions (in_body b.function.body ++ nz) → Leads (reading w f.0) nz (IsFunc b.function) d front rest read give)
-      → Leads w nz (IsNumber f) c front rest (numbered at read) give
+  pub numbered_lead : (f : FuncNo) (at : Place) (read : Reading Func) {l : ℕ} (c : Spot) (front rest : List Shape) → Ready w c.functions (f.0 ∷ nz) → (b : Begins w c.functions f nz)
+      → ((d : Spot) → Ready (reading w f.0) d.functions (in_body b.function.body ++ nz) → Leads l (reading w f.0) nz (IsFunc b.function) d front rest read give)
+      → Leads l w nz (IsNumber f) c front rest (numbered at read) give
   unfolding numbered begin keep
   numbered_lead f at read c front rest ready b inside =
       let d : Spot = record c { functions = c.functions ++ (not_read_yet at ∷ []) } in
@@ -180,7 +181,8 @@ module _ {all : World} {w : Frame all} {nz : Numbers} where
       record {
         value = record { 0 = length c.functions };
         spot = record h.spot { functions = slice_set h.spot.functions (length c.functions) h.value };
-        done = ap (λ r. behind r (λ g. keep (length c.functions) g)) h.done;
+        done = λ le. ap (λ r. behind r (λ g. keep (length c.functions) g)) (h.done le);
+        nested = λ fits less. nested_behind _ _ (h.nested fits less);
         is = record { same = ap (λ (n : ℕ). record { 0 = n }) (sym b.number) };
         ready = subst (λ n. Ready w (slice_set h.spot.functions n h.value) nz) b.number (kept_ready w h.spot.functions f.0 nz b.function h.value h.ready b.there h.is);
       }

@@ -20,7 +20,7 @@ use Rattle.reading_back.proofs.Joining.{first_none}
 use Rattle.reading_back.proofs.Ladder.{no_more_commas, from_operand}
 use Rattle.script_nesting.specs.Opened as depth
 use Rattle.script_nesting.specs.Opened.{Deep}
-use Rattle.reading_back.proofs.Steps.{after, from, on, stays, chain, bind, expected, parted, opens, first_is}
+use Rattle.reading_back.proofs.Steps.{exactly, after, from, on, stays, chain, bind, expected, parted, opens, first_is}
 
 -- ---- whole expressions
 
@@ -29,12 +29,12 @@ module _ {all : World} {bound : ℕ} {look : Look} {allows_in : Bool} {pieces : 
   pub expression_reads : (p : Part all bound look allows_in pieces numbers e) → Read all bound pieces numbers (IsExpr e) (below allows_in 1) (P.expression_by grammar (grammar.assignment allows_in) allows_in) give
   unfolding P.expression_by
   expression_reads p = record {
-    at = λ w c line rest nb room ready fits.
-        from (ap (λ r. behind r (λ left. repeat (P.more_commas grammar allows_in) left)) (tied.assignment allows_in (rest_of w c (tokens_from line pieces ++ rest))))
-        (chain (p.commas.at w c line rest nb room ready (omega (arith, fits))) (λ x d is done.
+    at = λ w c line rest nb ready fits.
+        exactly (from (ap (λ r. behind r (λ left. repeat (P.more_commas grammar allows_in) left)) (tied.assignment allows_in (rest_of w c (tokens_from line pieces ++ rest))))
+        (chain (p.commas.at w c line rest nb ready (omega (arith, fits))) (λ x d is done.
         from (repeated.commas allows_in x (rest_of w d rest) ∙ no_more_commas allows_in (repeat (P.more_commas grammar allows_in)) x (rest_of w d rest)
         (first_is w Marks.comma d rest ∙ first_none Marks.comma allows_in 1 rest (omega arith) (λ t q. q.comma (omega arith)) fits))
-        (stays {c = d} x give is done)));
+        (stays {c = d} x give is done)))) (omega arith);
   }
 
 -- ---- parentheses (11.1.6)
@@ -72,13 +72,13 @@ module _ {all : World} {bound : ℕ} {look : Look} {pieces : List Piece} {number
   group_reads : (p : Part all bound look true pieces numbers e) → Read all (suc bound) (grouped pieces) numbers (IsExpr e) anything (P.operand grammar) give
   unfolding P.group_behind
   group_reads p = record {
-    at = λ w c line rest nb room ready fits.
-        let d = after c (shape (form_of (codes "(")) line) in
+    at = λ w c line rest nb ready fits.
+        exactly (let d = after c (shape (form_of (codes "(")) line) in
         let inside = spread pieces (closing (codes ")")) p.flows false rest in
         from (operand_group w c line (tokens_from false (pieces ++ closing (codes ")")) ++ rest))
-        (on inside (parted (omega (arith, room)) (ap (λ zs. zs ++ (tokens_from false (closing (codes ")")) ++ rest)) (p.first.is false))
-        (bind ((expression_reads p).at (deeper w) d false _ nb (omega (arith, room)) (opens d.functions (numbers ++ nb) ready) (omega (arith, right_parenthesis_joins true)))
-        (λ x f is done. expected Marks.right_parenthesis tt (λ _. give x) right_parenthesis_is (stays x give is (done))))));
+        (on inside (parted (ap (λ zs. zs ++ (tokens_from false (closing (codes ")")) ++ rest)) (p.first.is false))
+        (bind ((expression_reads p).at (deeper w) d false _ nb (opens d.functions (numbers ++ nb) ready) (omega (arith, right_parenthesis_joins true)))
+        (λ x f is done. expected Marks.right_parenthesis tt (λ _. give x) right_parenthesis_is (stays x give is (done))))))) (omega arith);
   }
 
   pub group : (allows_in : Bool) → Part all bound look true pieces numbers e → Part all (suc bound) group_look allows_in (grouped pieces) numbers e

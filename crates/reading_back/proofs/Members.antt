@@ -24,7 +24,7 @@ use Rattle.reading_back.proofs.Groups.{expression_reads}
 use Rattle.reading_back.proofs.Ladder.{from_calls}
 use Rattle.reading_back.proofs.Names.{named_so}
 use Rattle.reading_back.proofs.Same.{same_layers}
-use Rattle.reading_back.proofs.Steps.{after, from, on, stays, chain, bind, expected, parted, opens, finishes}
+use Rattle.reading_back.proofs.Steps.{exactly, after, from, on, stays, chain, bind, expected, parted, opens, finishes}
 use Rattle.reading_back.proofs.TwoOperands.{first_before, between, ready_behind}
 
 -- ---- what goes on with a member or a call
@@ -85,16 +85,16 @@ module _ {all : World} {bb : ℕ} {allows_in sb : Bool} {pb : List Piece} {nb : 
   member_reads : {m : Reading Expr} (k : Bool) → Read all bb pb nb (IsExpr b) anything m (repeat (P.more_members grammar k))
       → Read all bb (dotted pb key) nb (IsExpr (record { at = at; form = form })) anything m (repeat (P.more_members grammar k))
   member_reads k h = record {
-    at = λ w c line rest nz room ready fits.
-        let dot : Shape = shape (form_of (codes ".")) false in
+    at = λ w c line rest nz ready fits.
+        exactly (let dot : Shape = shape (form_of (codes ".")) false in
         let named : Shape = shape (name_form key) false in
         let again = repeat (P.more_members grammar k) in
         on (between pb (name key) (codes ".") true _ fb.part.flows line rest)
-        (chain (h.at w c line (dot ∷ named ∷ rest) nz room ready tt) (λ x d isb done.
+        (chain (h.at w c line (dot ∷ named ∷ rest) nz ready tt) (λ x d isb done.
         from (repeated.members k x (rest_of w d (dot ∷ named ∷ rest)) ∙ member_dot k again x (rest_of w d (dot ∷ named ∷ rest)) dot_mark.dot_is)
         (bind (expected {c = after d dot} {s = named} Marks.identifier_name key (λ key. finish x.at (e.Member x key)) (named_so key)
         (finishes x.at (e.Member x key) low (same_layers x.at at (e.Member x key) form _ _ (e.outs-Member x key) is (ap (λ y. ExprForm-F.Member y key) isb.same)) done)) (λ y f isy finished.
-        stays {c = f} y again isy finished))));
+        stays {c = f} y again isy finished))))) (omega arith);
   }
 
   pub member_part : (calls : Bool) → (calls ≡ false → fb.look.calls ≡ false) → Part all bb (record { level = 16; calls = calls; starts = sb }) allows_in (dotted pb key) nb (record { at = at; form = form })
@@ -118,23 +118,23 @@ module _ {all : World} {bb bk : ℕ} {allows_in sb sk : Bool} {pb pk : List Piec
   index_reads : {m : Reading Expr} (calls : Bool) → Read all bb pb nb (IsExpr b) anything m (repeat (P.more_members grammar calls))
       → Read all (max bb (suc bk)) (indexed pb pk) (nb ++ nk) (IsExpr (record { at = at; form = form })) anything m (repeat (P.more_members grammar calls))
   index_reads calls h = record {
-    at = λ w c line rest nz room ready fits.
-        let left : Shape = shape (form_of (codes "[")) false in
+    at = λ w c line rest nz ready fits.
+        exactly (let left : Shape = shape (form_of (codes "[")) false in
         let right : Shape = shape (form_of (codes "]")) false in
         let inside = tokens_from false pk ++ (right ∷ rest) in
         let again = repeat (P.more_members grammar calls) in
         on (split_index line rest)
-        (chain (h.at w c line (left ∷ inside) (nk ++ nz) (omega (arith, room)) (ready_behind c.functions nb nk nz ready) tt) (λ x d isb readyb.
+        (chain (h.at w c line (left ∷ inside) (nk ++ nz) (ready_behind c.functions nb nk nz ready) tt) (λ x d isb readyb.
         from (repeated.members calls x (rest_of w d (left ∷ inside)) ∙ member_index calls again x (rest_of w d (left ∷ inside)) bracket_mark.dot_is bracket_mark.bracket_is)
         (bind
         (bind
-        (parted (omega (arith, room)) (ap (λ zs. zs ++ (right ∷ rest)) (fk.part.first.is false))
-        (bind ((expression_reads fk.part).at (deeper w) (after d left) false (right ∷ rest) nz (omega (arith, room)) (opens d.functions (nk ++ nz) readyb) (omega (arith, right_bracket_joins true))) (λ y f isk readyk.
+        (parted (ap (λ zs. zs ++ (right ∷ rest)) (fk.part.first.is false))
+        (bind ((expression_reads fk.part).at (deeper w) (after d left) false (right ∷ rest) nz (opens d.functions (nk ++ nz) readyb) (omega (arith, right_bracket_joins true))) (λ y f isk readyk.
         expected Marks.right_bracket tt (λ _. give y) right_bracket_is (stays y give isk readyk))))
         (λ y f isk readyk.
         finishes x.at (e.Index x y) low (same_layers x.at at (e.Index x y) form _ _ (e.outs-Index x y) is
         (ap (λ z. ExprForm-F.Index z (unplaced.expr y)) isb.same ∙ ap (λ z. ExprForm-F.Index (unplaced.expr b) z) isk.same)) readyk))
-        (λ y f isy finished. stays {c = f} y again isy finished))));
+        (λ y f isy finished. stays {c = f} y again isy finished))))) (omega arith);
   }
 
   pub index_part : (calls : Bool) → (calls ≡ false → fb.look.calls ≡ false) → Part all (max bb (suc bk)) (record { level = 16; calls = calls; starts = sb }) allows_in (indexed pb pk) (nb ++ nk) (record { at = at; form = form })

@@ -32,7 +32,8 @@ use Rattle.reading_back.proofs.FunctionBodies.{ElementsRead, Elements, elements_
 use Rattle.reading_back.proofs.FunctionDepths.{Tops, world, functions_read}
 use Rattle.reading_back.proofs.FunctionElements.{Closes, bounds, numbers_all, front, elements_lead, lines_of, lines_front}
 use Rattle.reading_back.proofs.Readability.{both, not_true}
-use Rattle.reading_back.proofs.ScriptLimits.{OrNested, same, nested, all_exprs, all_stmts, read_or_nested}
+use Rattle.reading_back.proofs.ScriptLimits.{OrNested, same, nested, all_exprs, all_stmts, read_or_nested, read_as_more}
+use Rattle.js_grammar.proofs.MoreHeights.{more_within, more_stmt_within}
 use Rattle.reading_back.proofs.StatementLists.{AreStmts}
 use Rattle.reading_back.proofs.Steps.{become}
 use Rattle.script_nesting.specs.Height.{function_height}
@@ -148,21 +149,21 @@ module _ (statements : (all : World) (function : Bool → FuncNo → List Piece)
     abbrev low_stmt : List Func → Stmt → Bool
     low_stmt functions t = is_stmt_within functions least t
 
-    frame : Frame all
-    frame = record { end = tokens.end; limit = least; opened = 0; begun = [] }
+    abbrev frame : ℕ → Frame all
+    frame limit = record { end = tokens.end; limit = limit; opened = 0; begun = [] }
 
     spot : Spot
     spot = record { supply = supply_of tokens.items; last = None; functions = [] }
 
-    begins : beginning low_expr low_stmt tokens least ≡ rest_of frame spot (front false the.xs [])
-    unfolding frame spot
-    begins =
-        ap (λ (zs : List Token). beginning low_expr low_stmt (record { items = zs; end = tokens.end }) least) (placed_so tokens.items)
-        ∙ ap (λ zs. rest_of frame spot zs) (are ∙ pieces_are)
+    begins : (limit : ℕ) → beginning low_expr low_stmt tokens limit ≡ rest_of (frame limit) spot (front false the.xs [])
+    unfolding spot
+    begins limit =
+        ap (λ (zs : List Token). beginning low_expr low_stmt (record { items = zs; end = tokens.end }) limit) (placed_so tokens.items)
+        ∙ ap (λ zs. rest_of (frame limit) spot zs) (are ∙ pieces_are)
 
-    ready : Ready frame spot.functions (numbers_all the.xs ++ [])
-    unfolding frame spot
-    ready = record {
+    ready : (limit : ℕ) → Ready (frame limit) spot.functions (numbers_all the.xs ++ [])
+    unfolding spot
+    ready limit = record {
       named = ap (λ ns. are_named_from 0 ns s.funcs) (append-nil (numbers_all the.xs) ∙ the.numbers_are) ∙ named;
       within = omega arith;
       deep = omega arith;
@@ -170,23 +171,26 @@ module _ (statements : (all : World) (function : Bool → FuncNo → List Piece)
       stands = λ k. unread refl;
     }
 
-    lead : Leads frame [] (AreStmts s.body) spot (front false the.xs []) [] (F.elements grammar at_end) give
-    unfolding F.elements frame
-    lead = become (λ b h. subst (λ ts. AreStmts ts b) the.trees_are h)
-        (elements_lead at_end (end_closes all) the.xs [] [] true frame spot false [] [] (record { same = refl }) enough ready refl (λ d. refl))
+    lead : (limit : ℕ) → Leads (0 + bounds the.xs) (frame limit) [] (AreStmts s.body) spot (front false the.xs []) [] (F.elements grammar at_end) give
+    unfolding F.elements
+    lead limit = become (λ b h. subst (λ ts. AreStmts ts b) the.trees_are h)
+        (elements_lead at_end (end_closes all) the.xs [] [] true (frame limit) spot false [] [] (record { same = refl }) (ready limit) refl (λ d. refl))
+
+    abbrev led : Leads (0 + bounds the.xs) (frame least) [] (AreStmts s.body) spot (front false the.xs []) [] (F.elements grammar at_end) give
+    led = lead least
 
     tree : Script
-    tree = record { directive = false; body = lead.value; funcs = lead.spot.functions }
+    tree = record { directive = false; body = led.value; funcs = led.spot.functions }
 
     read_so : read tokens least ≡ Ok tree
     unfolding read read_by tree
-    read_so = ap (λ r. script_of (F.elements grammar at_end r)) begins ∙ ap script_of lead.done
+    read_so = ap (λ r. script_of (F.elements grammar at_end r)) (begins least) ∙ ap script_of (led.done enough)
 
     same_tree : unplaced.script tree ≡ unplaced.script s
-    unfolding tree frame
+    unfolding tree
     same_tree =
-        ap (λ (ts : List Stmt). record { directive = false; body = ts; funcs = map unplaced.func lead.spot.functions }) lead.is.same
-        ∙ ap (λ (fs : List Func). record { directive = false; body = map unplaced.stmt s.body; funcs = fs }) (all_read frame lead.spot.functions refl lead.ready)
+        ap (λ (ts : List Stmt). record { directive = false; body = ts; funcs = map unplaced.func led.spot.functions }) led.is.same
+        ∙ ap (λ (fs : List Func). record { directive = false; body = map unplaced.stmt s.body; funcs = fs }) (all_read (frame least) led.spot.functions refl led.ready)
         ∙ ap (λ (d : Bool). record { directive = d; body = map unplaced.stmt s.body; funcs = map unplaced.func s.funcs }) (sym the_parts.plain)
 
     not_nested : (r : Result Script ReadRefused) → r ≡ Ok tree → (at : Place) → r ≢ Err (Nested at)
@@ -209,12 +213,32 @@ module _ (statements : (all : World) (function : Bool → FuncNo → List Piece)
     either limit r (same e) = inl (e ∙ all_allowed (max limit least) (omega arith))
     either limit r (nested at e) = inr (at, e)
 
+    -- with a limit that is less than how many parts are open at once
+    stopped : (limit : ℕ) → limit < opened s → (at : Place) × (read_by low_expr low_stmt tokens limit ≡ Err (Nested at))
+    unfolding read_by
+    stopped limit less =
+        let same : bounds the.xs ≡ opened s = the.bounds_are in
+        let n = (lead limit).nested (omega arith) (omega (arith, less, same)) in
+        (n.at, ap (λ r. script_of (F.elements grammar at_end r)) (begins limit) ∙ ap script_of n.is)
+
+    with_less : (limit : ℕ) → limit < opened s → (r : Result Script ReadRefused) → OrNested r (read_by low_expr low_stmt tokens limit) → (at : Place) × (r ≡ Err (Nested at))
+    with_less limit less r (same e) = let n = stopped limit less in (n.0, e ∙ n.1)
+    with_less limit less r (nested at e) = (at, e)
+
+    too_few : (limit : ℕ) → limit < opened s → (at : Place) × (read tokens limit ≡ Err (Nested at))
+    unfolding read
+    too_few limit less =
+        let le : limit ≤ least = omega (arith, less, opened_less s) in
+        with_less limit less (read tokens limit) (read_as_more (λ functions x. is_within functions limit x) low_expr (λ functions t. is_stmt_within functions limit t) low_stmt
+        (λ functions x e. more_within functions limit least x le e) (λ functions t e. more_stmt_within functions limit least t le e) tokens limit limit (omega arith))
+
     pub reads_to : ReadsTo tokens s
     unfolding read
     reads_to = record {
       tree = tree;
       same = same_tree;
       reads = with_more;
+      nested = too_few;
       or_nested = λ limit. either limit (read tokens limit)
           (read_or_nested (λ functions x. is_within functions limit x) (λ functions t. is_stmt_within functions limit t) tokens limit (max limit least) (omega arith));
     }

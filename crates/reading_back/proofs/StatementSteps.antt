@@ -1,5 +1,5 @@
 -- Steps of statements: the token that begins one, heads in parentheses, parts that are statements, and the semicolon at the end.
-use Rattle.std.proofs.Common.{◌≡◌, ◌≤◌, ℕ, ◌+◌, Bool, true, false, List, ◌∷◌, ◌++◌, refl, ap, ◌∙◌, arith, append_assoc, suc}
+use Rattle.std.proofs.Common.{◌≡◌, ℕ, ◌+◌, Bool, true, false, List, ◌∷◌, ◌++◌, refl, ap, ◌∙◌, arith, append_assoc, suc}
 use Rattle.std.specs.Prelude.{codes, Option, Some, Ok}
 use Rattle.js_value.specs.declared.place.Place.{Place}
 use Rattle.js_tree.specs.Lexing.{reserved_word}
@@ -26,7 +26,7 @@ use Rattle.reading_back.proofs.Flowing.{spread}
 pub use Rattle.reading_back.proofs.SameStatements.{StmtLayer, of_case, of_finally, unplaced_form, unplaced_case, unplaced_catch, unplaced_finally, unplaced_parts, same_stmts}
 use Rattle.reading_back.proofs.Groups.{expression_reads, right_parenthesis_is, right_parenthesis_joins}
 use Rattle.reading_back.proofs.Members.{parenthesis_mark}
-use Rattle.reading_back.proofs.Steps.{after, from, stays, bind, expected, parted, opens, next_some}
+use Rattle.reading_back.proofs.Steps.{exactly, after, from, stays, bind, expected, parted, opens, next_some}
 
 -- ---- tokens
 
@@ -54,18 +54,18 @@ module _ {all : World} {w : Frame all} where
   allowed {nb = nb} c {t = t} zs at form low is ready = rw (stmt_passes c.functions nb ready t (record { at = at; form = form }) is low) refl
 
   pub finishes_stmt : {nb : Numbers} {c : Spot} {t : Stmt} {rest : List Shape} (at : Place) (form : StmtForm) → LowStmt all t → IsStmt t (record { at = at; form = form }) → Ready w c.functions nb
-      → Leads w nb (IsStmt t) c rest rest (finish_stmt at form) give
+      → Leads w.opened w nb (IsStmt t) c rest rest (finish_stmt at form) give
   finishes_stmt {c = c} {t = t} {rest = rest} at form low is ready = from (allowed c {t = t} rest at form low is ready) (stays (record { at = at; form = form }) give is ready)
 
   -- a statement that begins with a token of its own
-  pub begins_with : {A : Type 0} {nb : Numbers} {Is : A → Type 0} {c : Spot} {line : Bool} {front rest : List Shape} {k : A → Reading Stmt} (text : List ℕ) (first : S.Beginning) → S.beginning (form_of text) ≡ Some first
-      → Leads w nb Is (after c (shape (form_of text) line)) front rest (S.begun grammar (c.supply 0).0 first) k → Leads w nb Is c (shape (form_of text) line ∷ front) rest (S.statement grammar) k
+  pub begins_with : {A : Type 0} {l : ℕ} {nb : Numbers} {Is : A → Type 0} {c : Spot} {line : Bool} {front rest : List Shape} {k : A → Reading Stmt} (text : List ℕ) (first : S.Beginning) → S.beginning (form_of text) ≡ Some first
+      → Leads l w nb Is (after c (shape (form_of text) line)) front rest (S.begun grammar (c.supply 0).0 first) k → Leads l w nb Is c (shape (form_of text) line ∷ front) rest (S.statement grammar) k
   unfolding S.statement
   begins_with {c = c} {line = line} {front = front} text first e h = from (next_some S.beginning first (λ b. S.begun grammar (c.supply 0).0 b) (S.expression_here grammar) (rest_of w c (shape (form_of text) line ∷ front)) e) h
 
   -- the semicolon at the end of a statement (7.9)
-  pub ended : {A C : Type 0} {nb : Numbers} {Is : C → Type 0} {c : Spot} {front rest : List Shape} (continues : Option Token → TokenForm → Bool) (f : Unit {0} → Reading A) {k : C → Reading A}
-      → Leads w nb Is (after c semicolon) front rest (f tt) k → Leads w nb Is c (semicolon ∷ front) rest (ends continues >>= f) k
+  pub ended : {A C : Type 0} {l : ℕ} {nb : Numbers} {Is : C → Type 0} {c : Spot} {front rest : List Shape} (continues : Option Token → TokenForm → Bool) (f : Unit {0} → Reading A) {k : C → Reading A}
+      → Leads l w nb Is (after c semicolon) front rest (f tt) k → Leads l w nb Is c (semicolon ∷ front) rest (ends continues >>= f) k
   unfolding ends
   ended {c = c} {front = front} continues f h = from (ap (λ r. behind r f) (next_some Marks.semicolon tt give _ (rest_of w c (semicolon ∷ front)) semicolon_is)) h
 
@@ -81,22 +81,22 @@ split_head first pe more flows line rest =
     (ap (λ ps. tokens_from false ps ++ rest) (append_assoc pe (closing (codes ")")) more) ∙ spread pe (closing (codes ")") ++ more) flows false rest)
 
 module _ {all : World} {bound : ℕ} {starts : Bool} {pieces : List Piece} {numbers : Numbers} {e : Expr} where
-  pub head_reads : (f : Fit all bound 1 starts true pieces numbers e) (w : Frame all) (c : Spot) (zs : List Shape) (nz : Numbers) → w.opened + suc bound ≤ w.limit → Ready w c.functions (numbers ++ nz)
-      → Leads w nz (IsExpr e) c (left_parenthesis ∷ (tokens_from false pieces ++ (right_parenthesis ∷ zs))) zs (S.head grammar) give
+  pub head_reads : (f : Fit all bound 1 starts true pieces numbers e) (w : Frame all) (c : Spot) (zs : List Shape) (nz : Numbers) → Ready w c.functions (numbers ++ nz)
+      → Leads (w.opened + suc bound) w nz (IsExpr e) c (left_parenthesis ∷ (tokens_from false pieces ++ (right_parenthesis ∷ zs))) zs (S.head grammar) give
   unfolding P.group_behind
-  head_reads f w c zs nz room ready =
-      expected Marks.left_parenthesis tt (λ _. P.group_behind grammar) parenthesis_mark.parenthesis_is
-      (parted (omega (arith, room)) (ap (λ ys. ys ++ (right_parenthesis ∷ zs)) (f.part.first.is false))
-      (bind ((expression_reads f.part).at (deeper w) (after c left_parenthesis) false (right_parenthesis ∷ zs) nz (omega (arith, room)) (opens c.functions (numbers ++ nz) ready) (omega (arith, right_parenthesis_joins true)))
-      (λ x d is done. expected Marks.right_parenthesis tt (λ _. give x) right_parenthesis_is (stays x give is done))))
+  head_reads f w c zs nz ready =
+      exactly (expected Marks.left_parenthesis tt (λ _. P.group_behind grammar) parenthesis_mark.parenthesis_is
+      (parted (ap (λ ys. ys ++ (right_parenthesis ∷ zs)) (f.part.first.is false))
+      (bind ((expression_reads f.part).at (deeper w) (after c left_parenthesis) false (right_parenthesis ∷ zs) nz (opens c.functions (numbers ++ nz) ready) (omega (arith, right_parenthesis_joins true)))
+      (λ x d is done. expected Marks.right_parenthesis tt (λ _. give x) right_parenthesis_is (stays x give is done))))) (omega arith)
 
 -- ---- parts that are statements
 
 module _ {all : World} {bound : ℕ} {ends_in_if : Bool} {pieces : List Piece} {numbers : Numbers} {t : Stmt} where
   pub stmt_reads : (p : StmtPart all bound ends_in_if pieces numbers t) → Read all (suc bound) pieces numbers (IsStmt t) (NoElse ends_in_if) (part grammar.statement) give
   stmt_reads p = record {
-    at = λ w c line rest nz room ready fits.
-        parted (omega (arith, room)) (ap (λ zs. zs ++ rest) (p.first.is line))
+    at = λ w c line rest nz ready fits.
+        exactly (parted (ap (λ zs. zs ++ rest) (p.first.is line))
         (from (tied.statement (rest_of (deeper w) c (tokens_from line pieces ++ rest)))
-        (p.reads.at (deeper w) c line rest nz (omega (arith, room)) (opens c.functions (numbers ++ nz) ready) fits));
+        (p.reads.at (deeper w) c line rest nz (opens c.functions (numbers ++ nz) ready) fits))) (omega arith);
   }

@@ -1,5 +1,5 @@
 -- Statements of a token alone, and of a word with an expression (12.3, 12.7 to 12.9, 12.13).
-use Rattle.std.proofs.Common.{◌≡◌, ◌≤◌, ℕ, ◌+◌, Bool, true, false, List, [], ◌∷◌, ◌++◌, refl, ap, sym, ◌∙◌, arith}
+use Rattle.std.proofs.Common.{◌≡◌, ℕ, ◌+◌, Bool, true, false, List, [], ◌∷◌, ◌++◌, refl, ap, sym, ◌∙◌, arith}
 use Rattle.std.specs.Prelude.{codes, Some, None, Result, Ok, Err}
 use Rattle.js_value.specs.declared.place.Place.{Place}
 use Rattle.js_tree.specs.Lexing.{reserved_word}
@@ -22,13 +22,13 @@ use Rattle.reading_back.proofs.Groups.{expression_reads}
 use Rattle.reading_back.proofs.Joining.{begins}
 use Rattle.reading_back.proofs.StatementHeads.{semicolon_joins}
 use Rattle.reading_back.proofs.StatementSteps.{same_stmts, semicolon, begins_with, token_first, finishes_stmt, ended}
-use Rattle.reading_back.proofs.Steps.{after, from, on, bind}
+use Rattle.reading_back.proofs.Steps.{exactly, after, from, on, bind}
 
 -- an expression before a semicolon
 module _ {all : World} {bound : ℕ} {starts : Bool} {pieces : List Piece} {numbers : Numbers} {e : Expr} where
-  pub before_semicolon : (f : Fit all bound 1 starts true pieces numbers e) (w : Frame all) (c : Spot) (rest : List Shape) (nz : Numbers) → w.opened + bound ≤ w.limit → Ready w c.functions (numbers ++ nz)
-      → Leads w nz (IsExpr e) c (tokens_from false pieces ++ (semicolon ∷ rest)) (semicolon ∷ rest) (P.expression grammar) give
-  before_semicolon f w c rest nz room ready = (expression_reads f.part).at w c false (semicolon ∷ rest) nz room ready (omega (arith, semicolon_joins true))
+  pub before_semicolon : (f : Fit all bound 1 starts true pieces numbers e) (w : Frame all) (c : Spot) (rest : List Shape) (nz : Numbers) → Ready w c.functions (numbers ++ nz)
+      → Leads (w.opened + bound) w nz (IsExpr e) c (tokens_from false pieces ++ (semicolon ∷ rest)) (semicolon ∷ rest) (P.expression grammar) give
+  before_semicolon f w c rest nz ready = exactly ((expression_reads f.part).at w c false (semicolon ∷ rest) nz ready (omega (arith, semicolon_joins true))) (omega arith)
 
 -- ---- 12.3
 
@@ -46,9 +46,9 @@ module _ {all : World} (at : Place) (form : StmtForm) (low : LowStmt all (record
     flows = flows_token (codes ";") true _;
     first = token_first (codes ";") true _ _ empty_first;
     reads = record {
-      at = λ w c line rest nz room ready fits.
-          begins_with {c = c} (codes ";") S.Empty empty_begins
-          (finishes_stmt (c.supply 0).0 s.Empty low (same_stmts (c.supply 0).0 at s.Empty form _ _ s.outs-Empty is refl) ready);
+      at = λ w c line rest nz ready fits.
+          exactly (begins_with {c = c} (codes ";") S.Empty empty_begins
+          (finishes_stmt (c.supply 0).0 s.Empty low (same_stmts (c.supply 0).0 at s.Empty form _ _ s.outs-Empty is refl) ready)) (omega arith);
     };
   }
 
@@ -84,11 +84,11 @@ module _ {all : World} (at : Place) (form : StmtForm) (low : LowStmt all (record
     flows = flows_last (word (codes "continue")) (closing (codes ";")) (flows_token (codes ";") true _);
     first = token_first (codes "continue") false _ _ continue_first;
     reads = record {
-      at = λ w c line rest nz room ready fits.
-          let o = after c (shape (form_of (codes "continue")) line) in
+      at = λ w c line rest nz ready fits.
+          exactly (let o = after c (shape (form_of (codes "continue")) line) in
           begins_with {c = c} (codes "continue") S.Continue continue_begins
           (from {d = after o semicolon} (jumps w o rest s.Continue (c.supply 0).0)
-          (finishes_stmt (c.supply 0).0 s.Continue low (same_stmts (c.supply 0).0 at s.Continue form _ _ s.outs-Continue is refl) ready));
+          (finishes_stmt (c.supply 0).0 s.Continue low (same_stmts (c.supply 0).0 at s.Continue form _ _ s.outs-Continue is refl) ready))) (omega arith);
     };
   }
 
@@ -97,11 +97,11 @@ module _ {all : World} (at : Place) (form : StmtForm) (low : LowStmt all (record
     flows = flows_last (word (codes "break")) (closing (codes ";")) (flows_token (codes ";") true _);
     first = token_first (codes "break") false _ _ break_first;
     reads = record {
-      at = λ w c line rest nz room ready fits.
-          let o = after c (shape (form_of (codes "break")) line) in
+      at = λ w c line rest nz ready fits.
+          exactly (let o = after c (shape (form_of (codes "break")) line) in
           begins_with {c = c} (codes "break") S.Break break_begins
           (from {d = after o semicolon} (jumps w o rest s.Break (c.supply 0).0)
-          (finishes_stmt (c.supply 0).0 s.Break low (same_stmts (c.supply 0).0 at s.Break form _ _ s.outs-Break is refl) ready));
+          (finishes_stmt (c.supply 0).0 s.Break low (same_stmts (c.supply 0).0 at s.Break form _ _ s.outs-Break is refl) ready))) (omega arith);
     };
   }
 
@@ -136,15 +136,15 @@ module _ {all : World} {be : ℕ} {se : Bool} {pe : List Piece} {ne : Numbers} {
     flows = flows_last (word (codes "throw") ++ pe) (closing (codes ";")) (flows_token (codes ";") true _);
     first = token_first (codes "throw") false _ _ throw_first;
     reads = record {
-      at = λ w c line rest nz room ready fits.
-          let p = (c.supply 0).0 in
+      at = λ w c line rest nz ready fits.
+          exactly (let p = (c.supply 0).0 in
           let o = after c (shape (form_of (codes "throw")) line) in
           on (split_word (codes "throw") pe f.part.flows line rest)
           (begins_with {c = c} (codes "throw") S.Throw throw_begins
           (from {d = o} (throws f w o rest p)
-          (bind (before_semicolon f w o rest nz room ready) (λ x d isx readyx.
+          (bind (before_semicolon f w o rest nz ready) (λ x d isx readyx.
           ended {c = d} continues_expression (λ _. finish_stmt p (s.Throw x))
-          (finishes_stmt p (s.Throw x) low (same_stmts p at (s.Throw x) form _ _ (s.outs-Throw x) is (ap (λ v. StmtForm-F.Throw v) isx.same)) readyx)))));
+          (finishes_stmt p (s.Throw x) low (same_stmts p at (s.Throw x) form _ _ (s.outs-Throw x) is (ap (λ v. StmtForm-F.Throw v) isx.same)) readyx)))))) (omega arith);
     };
   }
 
@@ -169,11 +169,11 @@ module _ {all : World} (at : Place) (form : StmtForm) (low : LowStmt all (record
     flows = flows_last (word (codes "return")) (closing (codes ";")) (flows_token (codes ";") true _);
     first = token_first (codes "return") false _ _ return_first;
     reads = record {
-      at = λ w c line rest nz room ready fits.
-          let o = after c (shape (form_of (codes "return")) line) in
+      at = λ w c line rest nz ready fits.
+          exactly (let o = after c (shape (form_of (codes "return")) line) in
           begins_with {c = c} (codes "return") S.Return return_begins
           (from {d = after o semicolon} (returns_none w o rest (c.supply 0).0)
-          (finishes_stmt (c.supply 0).0 (s.Return None) low (same_stmts (c.supply 0).0 at (s.Return None) form _ _ (s.outs-Return None) is refl) ready));
+          (finishes_stmt (c.supply 0).0 (s.Return None) low (same_stmts (c.supply 0).0 at (s.Return None) form _ _ (s.outs-Return None) is refl) ready))) (omega arith);
     };
   }
 
@@ -202,14 +202,14 @@ module _ {all : World} (at : Place) (form : StmtForm) (low : LowStmt all (record
       flows = flows_last (word (codes "return") ++ pe) (closing (codes ";")) (flows_token (codes ";") true _);
       first = token_first (codes "return") false _ _ return_first;
       reads = record {
-        at = λ w c line rest nz room ready fits.
-            let p = (c.supply 0).0 in
+        at = λ w c line rest nz ready fits.
+            exactly (let p = (c.supply 0).0 in
             let o = after c (shape (form_of (codes "return")) line) in
             on (split_word (codes "return") pe f.part.flows line rest)
             (begins_with {c = c} (codes "return") S.Return return_begins
             (from {d = o} (returns f w o rest p)
-            (bind (before_semicolon f w o rest nz room ready) (λ x d isx readyx.
+            (bind (before_semicolon f w o rest nz ready) (λ x d isx readyx.
             ended {c = d} continues_expression (λ _. finish_stmt p (s.Return (Some x)))
-            (finishes_stmt p (s.Return (Some x)) low (same_stmts p at (s.Return (Some x)) form _ _ (s.outs-Return (Some x)) is (ap (λ v. StmtForm-F.Return (Some v)) isx.same)) readyx)))));
+            (finishes_stmt p (s.Return (Some x)) low (same_stmts p at (s.Return (Some x)) form _ _ (s.outs-Return (Some x)) is (ap (λ v. StmtForm-F.Return (Some v)) isx.same)) readyx)))))) (omega arith);
       };
     }

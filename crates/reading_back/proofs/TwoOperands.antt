@@ -27,7 +27,7 @@ use Rattle.reading_back.proofs.Flowing.{flows_last, flows_token, spread}
 use Rattle.reading_back.proofs.Joining.{no_operator, binary_is_found, logic_is_found, binary_joins, logic_joins, is_in_op}
 use Rattle.reading_back.proofs.Ladder.{from_climb}
 use Rattle.reading_back.proofs.Same.{same_layers}
-use Rattle.reading_back.proofs.Steps.{after, from, on, stays, chain, bind, finished, first_is}
+use Rattle.reading_back.proofs.Steps.{exactly, after, from, on, stays, chain, bind, finished, first_is}
 use Rattle.reading_back.specs.Unplaced as unplaced
 
 -- numbers of functions in two parts
@@ -69,29 +69,29 @@ module _ {all : World} {ba bb : ℕ} {allows_in sa sb : Bool} {pa pb : List Piec
     right_reads =
         let inner : f.level + 4 ≤ fb.look.level = omega (arith, o.rest_level, fb.enough) in
         record {
-          at = λ w c line rest nz room ready fits.
-              chain ((fb.part.climb f.level inner).at w c line rest nz room ready (omega (arith, fits, fb.enough, o.tightest))) (λ x d is done.
+          at = λ w c line rest nz ready fits.
+              exactly (chain ((fb.part.climb f.level inner).at w c line rest nz ready (omega (arith, fits, fb.enough, o.tightest))) (λ x d is done.
               from (climbs.ends allows_in f.level x (rest_of w d rest) (first_is w _ d rest ∙ no_operator allows_in f.level (suc level) rest (omega (arith, o.tightest)) (omega (arith, o.rest_level)) fits))
-              (stays {c = d} x give is done));
+              (stays {c = d} x give is done))) (omega arith);
         }
 
     climbs_so : (n : ℕ) → n + 4 ≤ level → Read all (max ba bb) ((pa ++ word text) ++ pb) (na ++ nb) (IsExpr e) (below allows_in (suc (min 13 level)))
         (E.unary grammar >>= climb_rest (E.unary grammar) (drop n (levels allows_in))) (climb_rest (E.unary grammar) (drop n (levels allows_in)))
     climbs_so n le = record {
-      at = λ w c line rest nz room ready fits.
-          let ls = drop n (levels allows_in) in
+      at = λ w c line rest nz ready fits.
+          exactly (let ls = drop n (levels allows_in) in
           let all_levels = levels allows_in in
           let sign : Shape = shape (form_of text) false in
           let behind = tokens_from false pb ++ rest in
           on (between pa pb text false _ fa.part.flows line rest)
-          (chain ((fa.part.climb n (omega (arith, le, fa.enough))).at w c line (sign ∷ behind) (nb ++ nz) (omega (arith, room)) (ready_behind c.functions na nb nz ready) (omega (arith, o.joined, fa.enough, o.tightest)))
+          (chain ((fa.part.climb n (omega (arith, le, fa.enough))).at w c line (sign ∷ behind) (nb ++ nz) (ready_behind c.functions na nb nz ready) (omega (arith, o.joined, fa.enough, o.tightest)))
           (λ xa d isa donea.
           let s = rest_of w d (sign ∷ behind) in
           let u = rest_of w (after d sign) behind in
           from (climbs.goes_on allows_in n xa s f (o.found n le)
           ∙ sym (assoc (E.unary grammar) (climb_rest (E.unary grammar) (drop f.level all_levels)) (λ right. finish xa.at (f.form xa right) >>= λ both. climb_rest (E.unary grammar) ls both) u))
-          (bind (right_reads.at w (after d sign) false rest nz (omega (arith, room)) donea (omega (arith, fits))) (λ xb g isb doneb.
-          finished xa.at (f.form xa xb) (climb_rest (E.unary grammar) ls) low (o.makes xa xb isa isb) doneb (stays {c = g} (record { at = xa.at; form = f.form xa xb }) (climb_rest (E.unary grammar) ls) (o.makes xa xb isa isb) doneb)))));
+          (bind (right_reads.at w (after d sign) false rest nz donea (omega (arith, fits))) (λ xb g isb doneb.
+          finished xa.at (f.form xa xb) (climb_rest (E.unary grammar) ls) low (o.makes xa xb isa isb) doneb (stays {c = g} (record { at = xa.at; form = f.form xa xb }) (climb_rest (E.unary grammar) ls) (o.makes xa xb isa isb) doneb)))))) (omega arith);
     }
 
     pub two_operands : Part all (max ba bb) (record { level = level; calls = false; starts = sa }) allows_in ((pa ++ word text) ++ pb) (na ++ nb) e

@@ -28,7 +28,7 @@ use Rattle.reading_back.proofs.Names.{identifier_form}
 use Rattle.reading_back.proofs.Same.{same_layers}
 use Rattle.script_nesting.specs.Height as height
 use Rattle.script_nesting.proofs.Equations.{heights, height_is}
-use Rattle.reading_back.proofs.Steps.{after, from, on, bind, finishes}
+use Rattle.reading_back.proofs.Steps.{exactly, after, from, on, bind, finishes}
 
 -- ---- pieces of one token
 
@@ -48,8 +48,8 @@ module _ {all : World} {starts : Bool} {pieces : List Piece} {t : TokenForm} (at
     (same : (other : Place) → IsExpr (record { at = at; form = form }) (record { at = other; form = value })) where
   word_reads : Read all 0 pieces [] (IsExpr (record { at = at; form = form })) anything (P.operand grammar) give
   word_reads = record {
-    at = λ w c line rest nz room ready fits.
-        on (ap (λ zs. zs ++ rest) (single.alone line)) (from (reads w c line rest) (finishes {c = after c (shape t line)} (c.supply 0).0 value low (same (c.supply 0).0) ready));
+    at = λ w c line rest nz ready fits.
+        exactly (on (ap (λ zs. zs ++ rest) (single.alone line)) (from (reads w c line rest) (finishes {c = after c (shape t line)} (c.supply 0).0 value low (same (c.supply 0).0) ready))) (omega arith);
   }
 
   pub word_part : {allows_in : Bool} → Part all 0 (word_look starts) allows_in pieces [] (record { at = at; form = form })
@@ -167,10 +167,10 @@ module _ {all : World} {function : Bool → FuncNo → List Piece} {inside : Fun
 
   function_reads : Read all (inside f) (word (codes "function") ++ function true f) (f.0 ∷ []) (IsExpr (record { at = at; form = form })) anything (P.operand grammar) give
   function_reads = record {
-    at = λ w c line rest nz room ready fits.
-        from (function_here w c line (tokens_from false (function true f) ++ rest))
-        (bind ((reads.expression f (c.supply 0).0 short).at w c line rest nz room ready tt) (λ g d number done.
-        finishes {c = d} (c.supply 0).0 (e.Func g) low (same_layers (c.supply 0).0 at (e.Func g) form _ _ (e.outs-Func g) is (ap (λ h. ExprForm-F.Func h) number.same)) done));
+    at = λ w c line rest nz ready fits.
+        exactly (from (function_here w c line (tokens_from false (function true f) ++ rest))
+        (bind ((reads.expression f (c.supply 0).0 short).at w c line rest nz ready tt) (λ g d number done.
+        finishes {c = d} (c.supply 0).0 (e.Func g) low (same_layers (c.supply 0).0 at (e.Func g) form _ _ (e.outs-Func g) is (ap (λ h. ExprForm-F.Func h) number.same)) done))) (omega arith);
   }
 
   pub function_part : {allows_in : Bool} → Part all (inside f) (word_look true) allows_in (word (codes "function") ++ function true f) (f.0 ∷ []) (record { at = at; form = form })
