@@ -20,16 +20,19 @@ use Rattle.js_grammar.proofs.Laws.{repeated}
 use Rattle.script_text.specs.Expressions.{Printed, value, element, last_comma, is_elision, ends_in_elision}
 use Rattle.script_text.specs.Pieces.{Piece, opening, closing, separated, behind_commas}
 use Rattle.script_text.specs.Tokens.{Shape, shape, form_of, tokens_from}
-use Rattle.reading_back.proofs.Claims.{World, Frame, Spot, rest_of, deeper, Leads, Ready, Read, anything, below, First, IsExpr, Part}
+use Rattle.reading_back.proofs.Claims.{Low, World, Frame, Spot, rest_of, deeper, Leads, Ready, Read, anything, below, First, IsExpr, Part}
 use Rattle.reading_back.proofs.Marks.{begins_none, begins_unary, begins_statement, begins_other}
 use Rattle.reading_back.specs.Unplaced as unplaced
-use Rattle.reading_back.proofs.Calls.{Arg}
+use Rattle.reading_back.proofs.Calls.{deep_of, Arg}
 use Rattle.reading_back.proofs.Flowing.{flows_last, flows_token, spread}
 use Rattle.reading_back.proofs.Joining.{begins}
 use Rattle.reading_back.proofs.Ladder.{from_operand}
 use Rattle.reading_back.proofs.LooseOperators.{assignment_reads, comma_is, comma_joins}
 use Rattle.reading_back.proofs.Members.{right_bracket_is, right_bracket_joins}
 use Rattle.reading_back.proofs.Same.{same_layers}
+use Rattle.script_nesting.specs.Opened as depth
+use Rattle.script_nesting.specs.Opened.{Deep}
+use Rattle.script_nesting.specs.Highest.{highest}
 use Rattle.reading_back.proofs.Steps.{after, first_of_shapes, from, on, become, stays, bind, take, miss, expected, parted, opens, finishes}
 use Rattle.reading_back.proofs.TwoOperands.{ready_behind}
 use Rattle.reading_back.proofs.Words.{word_look}
@@ -57,10 +60,11 @@ unfolding form_of reserved_word
 no_comma = refl
 
 module _ {all : World} where
+  abbrev pub deep_items : List (Option (Arg all)) → List (Option Deep)
+  deep_items xs = map (option_map deep_of) xs
+
   abbrev pub bound_items : List (Option (Arg all)) → ℕ
-  bound_items [] = 0
-  bound_items (None ∷ xs) = bound_items xs
-  bound_items (Some x ∷ xs) = x.fit.part.bound + bound_items xs
+  bound_items xs = highest (map depth.element (deep_items xs))
 
   abbrev pub printed_items : List (Option (Arg all)) → List (Option Printed)
   printed_items xs = map (option_map (λ (x : Arg all). x.printed)) xs
@@ -109,7 +113,7 @@ module _ {all : World} where
       → Leads w nz (AreElements (model ++ tree_items xs)) c (tokens_from false (left (printed_items xs)) ++ rest) rest (repeat (P.more_elements grammar) so_far) give
 
   -- an element, and then what follows it
-  one : (x : Arg all) (n : Numbers) (so_far : Elements) (w : Frame all) (c : Spot) (ps : List Piece) (s : Shape) (more rest : List Shape) (nz : Numbers) {Js : Elements → Type 0} → w.opened + x.fit.part.bound ≤ w.limit
+  one : (x : Arg all) (n : Numbers) (so_far : Elements) (w : Frame all) (c : Spot) (ps : List Piece) (s : Shape) (more rest : List Shape) (nz : Numbers) {Js : Elements → Type 0} → w.opened + depth.value (deep_of x) ≤ w.limit
       → tokens_from false ps ++ rest ≡ s ∷ more → below true 2 (s ∷ more) → Ready w c.functions (x.numbers ++ nz)
       → ((y : Expr) (d : Spot) → IsExpr x.tree y → Ready w d.functions nz → Leads w n Js d (s ∷ more) rest (behind_element so_far y) give)
       → Leads w n Js c (tokens_from false (value x.printed ++ ps) ++ rest) rest (repeat (P.more_elements grammar) so_far) give
@@ -134,7 +138,7 @@ module _ {all : World} where
       (miss Marks.right_bracket _ _ no_bracket
       (take {c = c} {s = shape (form_of (codes ",")) false} Marks.comma tt _ _ comma_is
       (become (λ b h. subst (λ es. AreElements es b) (append_assoc model (None ∷ []) (tree_items xs)) h)
-      (lead xs (model ++ (None ∷ [])) (so_far ++ (None ∷ [])) w (after c (shape (form_of (codes ",")) false)) rest nz (one_more model so_far None None same refl) room ready)))))
+      (lead xs (model ++ (None ∷ [])) (so_far ++ (None ∷ [])) w (after c (shape (form_of (codes ",")) false)) rest nz (one_more model so_far None None same refl) (omega (arith, room)) ready)))))
   lead (Some x ∷ []) model so_far w c rest nz same room ready =
       on (ap (λ ps. tokens_from false ps ++ rest) (left_some x.printed))
       (one x nz so_far w c (closing (codes "]")) (shape (form_of (codes "]")) false) rest rest nz (omega (arith, room)) refl (omega (arith, right_bracket_joins true)) (ready_behind c.functions x.numbers [] nz ready) (λ y d is done.
@@ -211,9 +215,9 @@ array_same g n s es xs h =
     let same : g ≡ option_map unplaced.expr = λ i o. same_option g n s o i in
     ap (λ f. map f xs) same ∙ h.same ∙ sym (ap (λ f. map f es) same)
 
-module _ {all : World} (at : Place) (form : ExprForm) (xs : List (Option (Arg all))) where
+module _ {all : World} (at : Place) (form : ExprForm) (low : Low all (record { at = at; form = form })) (xs : List (Option (Arg all))) where
   array_reads : out-ExprForm form ≡ ExprForm-F.ArrayLit (tree_items xs)
-      → Read all (bound_items xs + 1) (array_pieces (printed_items xs)) (numbers_items xs) (IsExpr (record { at = at; form = form })) anything (P.operand grammar) give
+      → Read all (suc (bound_items xs)) (array_pieces (printed_items xs)) (numbers_items xs) (IsExpr (record { at = at; form = form })) anything (P.operand grammar) give
   unfolding P.array_behind
   array_reads is = record {
     at = λ w c line rest nz room ready fits.
@@ -222,10 +226,10 @@ module _ {all : World} (at : Place) (form : ExprForm) (xs : List (Option (Arg al
         let o = opened_left xs rest in
         from {d = d} (operand_array w c line (tokens_from false (left (printed_items xs)) ++ rest))
         (bind (parted (omega (arith, room)) o.is (lead xs [] [] (deeper w) d rest nz (record { same = refl }) (omega (arith, room)) (opens c.functions (numbers_items xs ++ nz) ready))) (λ ys f are done.
-        finishes {c = f} p (e.ArrayLit ys) (same_layers p at (e.ArrayLit ys) form _ _ (e.outs-ArrayLit ys) is (ap ExprForm-F.ArrayLit (array_same _ refl (λ x. refl) (tree_items xs) ys are))) done));
+        finishes {c = f} p (e.ArrayLit ys) low (same_layers p at (e.ArrayLit ys) form _ _ (e.outs-ArrayLit ys) is (ap ExprForm-F.ArrayLit (array_same _ refl (λ x. refl) (tree_items xs) ys are))) done));
   }
 
   pub array_part : {allows_in : Bool} → out-ExprForm form ≡ ExprForm-F.ArrayLit (tree_items xs)
-      → Part all (word_look false) allows_in (array_pieces (printed_items xs)) (numbers_items xs) (record { at = at; form = form })
+      → Part all (suc (bound_items xs)) (word_look false) allows_in (array_pieces (printed_items xs)) (numbers_items xs) (record { at = at; form = form })
   array_part is = from_operand (flows_last ((opening (codes "[") ++ separated element (printed_items xs)) ++ last_comma (ends_in_elision (printed_items xs))) (closing (codes "]")) (flows_token (codes "]") true _))
-      (array_first (printed_items xs)) (bound_items xs + 1) (omega arith) (array_reads is)
+      (array_first (printed_items xs)) (suc (bound_items xs)) (omega arith) (array_reads is)

@@ -1,5 +1,5 @@
 -- Lists of elements: the code of a script, and the bodies of functions (13, 14).
-use Rattle.std.proofs.Common.{◌≡◌, ◌≤◌, ℕ, ◌+◌, Bool, true, false, cond, List, [], ◌∷◌, ◌++◌, map, refl, ap, sym, ◌∙◌, subst, arith, append_assoc, append-nil}
+use Rattle.std.proofs.Common.{◌≡◌, ◌≤◌, ℕ, ◌+◌, Bool, true, false, cond, List, [], ◌∷◌, ◌++◌, map, refl, ap, sym, ◌∙◌, subst, arith, append_assoc, append-nil, suc}
 use Rattle.std.specs.Prelude.{◌||◌, Option, ◌&&◌, None, is_some, Ok}
 use Rattle.std.specs.List.{flat_map}
 use Rattle.js_tree.specs.Mentions.{joined}
@@ -21,6 +21,7 @@ use Rattle.reading_back.proofs.StatementClaims.{IsStmt, ElementPart, is_else, en
 use Rattle.reading_back.specs.Unplaced as unplaced
 use Rattle.reading_back.proofs.Joining.{or_false, none}
 use Rattle.reading_back.proofs.StatementLists.{AreStmts, are_more_stmts, no_finally}
+use Rattle.script_nesting.specs.Opened.{of_stmts}
 use Rattle.reading_back.proofs.Steps.{from, on, become, stays, bind, parted, opens}
 use Rattle.reading_back.proofs.TwoOperands.{ready_behind}
 
@@ -30,7 +31,8 @@ pub record Element (all : World) : Type 0 where
   pub ends_in_if : Bool
   pub numbers : Numbers
   pub tree : Stmt
-  pub part : ElementPart all ends_in_if pieces numbers tree
+  pub bound : ℕ
+  pub part : ElementPart all bound ends_in_if pieces numbers tree
 
 -- ---- what an element doesn't begin with
 
@@ -64,8 +66,7 @@ neither e f = rw (e, f) refl
 
 module _ {all : World} where
   abbrev pub bounds : List (Element all) → ℕ
-  bounds [] = 0
-  bounds (x ∷ xs) = x.part.bound + 1 + bounds xs
+  bounds xs = of_stmts (map (λ (x : Element all). x.bound) xs)
 
   abbrev pub pieces_all : List (Element all) → List (List Piece)
   pieces_all xs = map (λ (x : Element all). x.pieces) xs
@@ -97,7 +98,7 @@ no_directive : (at : Place) (strict leads is_string : Bool) (t : Stmt) (s : Rest
 no_directive at strict leads is_string t s e = rw (not_strict strict (F.is_directive leads is_string t) (ap (λ b. F.is_directive leads b t) e ∙ no_string leads (F.is_string_statement t))) refl
 
 module _ {all : World} where
-  element_lead : (x : Element all) (leads : Bool) (w : Frame all) (c : Spot) (line : Bool) (more : List Shape) (na : Numbers) → w.opened + (x.part.bound + 1) ≤ w.limit
+  element_lead : (x : Element all) (leads : Bool) (w : Frame all) (c : Spot) (line : Bool) (more : List Shape) (na : Numbers) → w.opened + suc x.bound ≤ w.limit
       → Ready w c.functions (x.numbers ++ na) → is_else more ≡ false → Leads w na (λ p. IsStmt x.tree p.0) c (tokens_from line x.pieces ++ more) more (F.element_behind grammar leads) give
   element_lead x leads w c line more na room ready plain =
       let f = x.part.first in

@@ -1,5 +1,5 @@
 -- Inputs and host calls, the two forms of this project's own.
-use Rattle.std.proofs.Common.{◌≡◌, ◌≤◌, ℕ, ◌+◌, Bool, true, false, cond, List, [], ◌∷◌, ◌++◌, map, refl, ap, sym, ◌∙◌, subst, arith, append_assoc, append-nil}
+use Rattle.std.proofs.Common.{◌≡◌, ◌≤◌, ℕ, ◌+◌, Bool, true, false, cond, List, [], ◌∷◌, ◌++◌, map, refl, ap, sym, ◌∙◌, subst, arith, append_assoc, append-nil, suc}
 use Rattle.std.specs.Prelude.{codes, Option, Some}
 use Rattle.js_value.specs.declared.place.Place.{Place}
 use Rattle.js_value.specs.declared.primitive.Kind.{Kind}
@@ -22,7 +22,7 @@ use Rattle.js_grammar.proofs.Laws.{repeated}
 use Rattle.script_text.specs.Expressions.{value, input, host_call, two_literals, kind_text}
 use Rattle.script_text.specs.Pieces.{Piece, word, closing, inner, behind_commas}
 use Rattle.script_text.specs.Tokens.{Shape, shape, form_of, tokens_from}
-use Rattle.reading_back.proofs.Claims.{World, Frame, Spot, rest_of, deeper, Leads, Ready, Read, anything, below, Flows, First, IsExpr, Part}
+use Rattle.reading_back.proofs.Claims.{Low, World, Frame, Spot, rest_of, deeper, Leads, Ready, Read, anything, below, Flows, First, IsExpr, Part}
 use Rattle.reading_back.proofs.Marks.{begins_none, begins_unary, begins_statement, begins_other}
 use Rattle.reading_back.specs.Unplaced as unplaced
 use Rattle.reading_back.proofs.Calls.{Arg, AreExprs, are_more, bounds, printed_all, numbers_all, trees}
@@ -70,7 +70,7 @@ input_first k text = record {
   plain = λ s. refl;
 }
 
-module _ {all : World} (at : Place) (form : ExprForm) (k : Kind) (text : List ℕ) where
+module _ {all : World} (at : Place) (form : ExprForm) (low : Low all (record { at = at; form = form })) (k : Kind) (text : List ℕ) where
   input_reads : out-ExprForm form ≡ ExprForm-F.Input k text → Read all 1 (input k text) [] (IsExpr (record { at = at; form = form })) anything (P.operand grammar) give
   unfolding P.abstract_behind two_literals
   input_reads is = record {
@@ -84,10 +84,10 @@ module _ {all : World} (at : Place) (form : ExprForm) (k : Kind) (text : List �
         (shaped p feature.AbstractForm Marks.comma tt _ comma_is
         (shaped p feature.AbstractForm Marks.string text _ refl
         (shaped p feature.AbstractForm Marks.right_parenthesis tt _ right_parenthesis_is
-        (finishes p (e.Input k text) (same_layers p at (e.Input k text) form _ _ (e.outs-Input k text) is refl) (opens c.functions nz ready))))))));
+        (finishes p (e.Input k text) low (same_layers p at (e.Input k text) form _ _ (e.outs-Input k text) is refl) (opens c.functions nz ready))))))));
   }
 
-  pub input_part : {allows_in : Bool} → out-ExprForm form ≡ ExprForm-F.Input k text → Part all (word_look false) allows_in (input k text) [] (record { at = at; form = form })
+  pub input_part : {allows_in : Bool} → out-ExprForm form ≡ ExprForm-F.Input k text → Part all 1 (word_look false) allows_in (input k text) [] (record { at = at; form = form })
   input_part is = from_operand (flows_last ((word (codes "__abstract") ++ inner (codes "(")) ++ two_literals k text) (closing (codes ")")) (flows_token (codes ")") true _))
       (input_first k text) 1 (omega arith) (input_reads is)
 
@@ -154,9 +154,9 @@ call_flows : (k : Kind) (text : List ℕ) (args : List Piece) → Flows (host_ca
 unfolding host_call two_literals
 call_flows k text args = flows_last (((word (codes "__residual") ++ inner (codes "(")) ++ two_literals k text) ++ args) (closing (codes ")")) (flows_token (codes ")") true _)
 
-module _ {all : World} (at : Place) (form : ExprForm) (k : Kind) (text : List ℕ) (xs : List (Arg all)) where
+module _ {all : World} (at : Place) (form : ExprForm) (low : Low all (record { at = at; form = form })) (k : Kind) (text : List ℕ) (xs : List (Arg all)) where
   call_reads : out-ExprForm form ≡ ExprForm-F.HostCall k text (trees xs)
-      → Read all (bounds xs + 1) (host_call k text (behind_commas value (printed_all xs))) (numbers_all xs) (IsExpr (record { at = at; form = form })) anything (P.operand grammar) give
+      → Read all (suc (bounds xs)) (host_call k text (behind_commas value (printed_all xs))) (numbers_all xs) (IsExpr (record { at = at; form = form })) anything (P.operand grammar) give
   unfolding P.residual_behind two_literals host_call
   call_reads is = record {
     at = λ w c line rest nz room ready fits.
@@ -169,9 +169,9 @@ module _ {all : World} (at : Place) (form : ExprForm) (k : Kind) (text : List �
         (shaped p feature.ResidualForm Marks.comma tt _ comma_is
         (shaped p feature.ResidualForm Marks.string text _ refl
         (bind (lead p xs [] [] (deeper w) _ rest nz (record { same = refl }) (omega (arith, room)) (opens c.functions (numbers_all xs ++ nz) ready)) (λ ys g are done.
-        finishes p (e.HostCall k text ys) (same_layers p at (e.HostCall k text ys) form _ _ (e.outs-HostCall k text ys) is (ap (λ zs. ExprForm-F.HostCall k text zs) are.same)) done)))))));
+        finishes p (e.HostCall k text ys) low (same_layers p at (e.HostCall k text ys) form _ _ (e.outs-HostCall k text ys) is (ap (λ zs. ExprForm-F.HostCall k text zs) are.same)) done)))))));
   }
 
   pub host_call_part : {allows_in : Bool} → out-ExprForm form ≡ ExprForm-F.HostCall k text (trees xs)
-      → Part all (word_look false) allows_in (host_call k text (behind_commas value (printed_all xs))) (numbers_all xs) (record { at = at; form = form })
-  host_call_part is = from_operand (call_flows k text (behind_commas value (printed_all xs))) (call_first k text (behind_commas value (printed_all xs))) (bounds xs + 1) (omega arith) (call_reads is)
+      → Part all (suc (bounds xs)) (word_look false) allows_in (host_call k text (behind_commas value (printed_all xs))) (numbers_all xs) (record { at = at; form = form })
+  host_call_part is = from_operand (call_flows k text (behind_commas value (printed_all xs))) (call_first k text (behind_commas value (printed_all xs))) (suc (bounds xs)) (omega arith) (call_reads is)

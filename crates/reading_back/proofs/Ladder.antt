@@ -172,7 +172,7 @@ module _ {all : World} {bound : ℕ} {pieces : List Piece} {numbers : Numbers} {
 -- ---- what is read in one production is read in all looser ones
 
 module _ {all : World} {look : Look} {allows_in : Bool} {pieces : List Piece} {numbers : Numbers} {e : Expr} (flows : Flows pieces) (first : First look pieces) (bound : ℕ) where
-  pub from_operand : 15 ≤ look.level → Read all bound pieces numbers (IsExpr e) anything (P.operand grammar) give → Part all look allows_in pieces numbers e
+  pub from_operand : 15 ≤ look.level → Read all bound pieces numbers (IsExpr e) anything (P.operand grammar) give → Part all bound look allows_in pieces numbers e
   from_operand le o =
       let c : Read all bound pieces numbers (IsExpr e) anything (P.left_hand_side grammar) (repeat (P.more_members grammar true)) = calls_of o in
       let u : Read all bound pieces numbers (IsExpr e) (below allows_in 14) (E.unary grammar) give = unary_of allows_in first le (postfix_of allows_in c) in
@@ -182,7 +182,6 @@ module _ {all : World} {look : Look} {allows_in : Bool} {pieces : List Piece} {n
       record {
         flows = flows;
         first = first;
-        bound = bound;
         operand = λ l. o;
         calls = λ l. c;
         members = λ l e. members_of o;
@@ -193,7 +192,7 @@ module _ {all : World} {look : Look} {allows_in : Bool} {pieces : List Piece} {n
         commas = commas_of allows_in a;
       }
 
-  pub from_calls : look.level ≡ 16 → Read all bound pieces numbers (IsExpr e) anything (P.left_hand_side grammar) (repeat (P.more_members grammar true)) → (look.calls ≡ false → Read all bound pieces numbers (IsExpr e) anything (P.member grammar) (repeat (P.more_members grammar false))) → Part all look allows_in pieces numbers e
+  pub from_calls : look.level ≡ 16 → Read all bound pieces numbers (IsExpr e) anything (P.left_hand_side grammar) (repeat (P.more_members grammar true)) → (look.calls ≡ false → Read all bound pieces numbers (IsExpr e) anything (P.member grammar) (repeat (P.more_members grammar false))) → Part all bound look allows_in pieces numbers e
   from_calls le c m =
       let u : Read all bound pieces numbers (IsExpr e) (below allows_in 14) (E.unary grammar) give = unary_of allows_in first (omega (arith, le)) (postfix_of allows_in c) in
       let k : ((n : ℕ) → n + 4 ≤ look.level → Read all bound pieces numbers (IsExpr e) (below allows_in (suc (min 13 look.level))) (E.unary grammar >>= climbing.rest (E.unary grammar) (drop n (climbing.levels allows_in))) (climbing.rest (E.unary grammar) (drop n (climbing.levels allows_in)))) = λ n l. climb_of allows_in look.level n (omega (arith, le)) u in
@@ -202,7 +201,6 @@ module _ {all : World} {look : Look} {allows_in : Bool} {pieces : List Piece} {n
       record {
         flows = flows;
         first = first;
-        bound = bound;
         operand = λ l. absurd (omega (arith, le, l));
         calls = λ l. c;
         members = λ l e. m e;
@@ -213,7 +211,7 @@ module _ {all : World} {look : Look} {allows_in : Bool} {pieces : List Piece} {n
         commas = commas_of allows_in a;
       }
 
-  pub from_postfix : look.level ≡ 15 → Read all bound pieces numbers (IsExpr e) (below allows_in 14) (E.postfix grammar) give → Part all look allows_in pieces numbers e
+  pub from_postfix : look.level ≡ 15 → Read all bound pieces numbers (IsExpr e) (below allows_in 14) (E.postfix grammar) give → Part all bound look allows_in pieces numbers e
   from_postfix le p =
       let u : Read all bound pieces numbers (IsExpr e) (below allows_in 14) (E.unary grammar) give = unary_of allows_in first (omega (arith, le)) p in
       let k : ((n : ℕ) → n + 4 ≤ look.level → Read all bound pieces numbers (IsExpr e) (below allows_in (suc (min 13 look.level))) (E.unary grammar >>= climbing.rest (E.unary grammar) (drop n (climbing.levels allows_in))) (climbing.rest (E.unary grammar) (drop n (climbing.levels allows_in)))) = λ n l. climb_of allows_in look.level n (omega (arith, le)) u in
@@ -222,7 +220,6 @@ module _ {all : World} {look : Look} {allows_in : Bool} {pieces : List Piece} {n
       record {
         flows = flows;
         first = first;
-        bound = bound;
         operand = λ l. absurd (omega (arith, le, l));
         calls = λ l. absurd (omega (arith, le, l));
         members = λ l e. absurd (omega (arith, le, l));
@@ -233,7 +230,7 @@ module _ {all : World} {look : Look} {allows_in : Bool} {pieces : List Piece} {n
         commas = commas_of allows_in a;
       }
 
-  pub from_unary : look.level ≡ 14 → Read all bound pieces numbers (IsExpr e) (below allows_in 14) (E.unary grammar) give → Part all look allows_in pieces numbers e
+  pub from_unary : look.level ≡ 14 → Read all bound pieces numbers (IsExpr e) (below allows_in 14) (E.unary grammar) give → Part all bound look allows_in pieces numbers e
   from_unary le u =
       let k : ((n : ℕ) → n + 4 ≤ look.level → Read all bound pieces numbers (IsExpr e) (below allows_in (suc (min 13 look.level))) (E.unary grammar >>= climbing.rest (E.unary grammar) (drop n (climbing.levels allows_in))) (climbing.rest (E.unary grammar) (drop n (climbing.levels allows_in)))) = λ n l. climb_of allows_in look.level n (omega (arith, le)) u in
       let d : Read all bound pieces numbers (IsExpr e) (below allows_in 2) (E.conditional grammar allows_in) give = looser allows_in 2 (omega arith) (conditional_of allows_in look.level (omega (arith, le)) (k 0 (omega (arith, le)))) in
@@ -241,7 +238,6 @@ module _ {all : World} {look : Look} {allows_in : Bool} {pieces : List Piece} {n
       record {
         flows = flows;
         first = first;
-        bound = bound;
         operand = λ l. absurd (omega (arith, le, l));
         calls = λ l. absurd (omega (arith, le, l));
         members = λ l e. absurd (omega (arith, le, l));
@@ -252,14 +248,13 @@ module _ {all : World} {look : Look} {allows_in : Bool} {pieces : List Piece} {n
         commas = commas_of allows_in a;
       }
 
-  pub from_climb : look.level ≤ 13 → 4 ≤ look.level → ((n : ℕ) → n + 4 ≤ look.level → Read all bound pieces numbers (IsExpr e) (below allows_in (suc (min 13 look.level))) (E.unary grammar >>= climbing.rest (E.unary grammar) (drop n (climbing.levels allows_in))) (climbing.rest (E.unary grammar) (drop n (climbing.levels allows_in)))) → Part all look allows_in pieces numbers e
+  pub from_climb : look.level ≤ 13 → 4 ≤ look.level → ((n : ℕ) → n + 4 ≤ look.level → Read all bound pieces numbers (IsExpr e) (below allows_in (suc (min 13 look.level))) (E.unary grammar >>= climbing.rest (E.unary grammar) (drop n (climbing.levels allows_in))) (climbing.rest (E.unary grammar) (drop n (climbing.levels allows_in)))) → Part all bound look allows_in pieces numbers e
   from_climb le at_least k =
       let d : Read all bound pieces numbers (IsExpr e) (below allows_in 2) (E.conditional grammar allows_in) give = looser allows_in 2 (omega arith) (conditional_of allows_in look.level at_least (k 0 (omega (arith, at_least)))) in
       let a : Read all bound pieces numbers (IsExpr e) (below allows_in 2) (E.assignment grammar allows_in) give = assignment_of allows_in d in
       record {
         flows = flows;
         first = first;
-        bound = bound;
         operand = λ l. absurd (omega (arith, le, l));
         calls = λ l. absurd (omega (arith, le, l));
         members = λ l e. absurd (omega (arith, le, l));
@@ -270,13 +265,12 @@ module _ {all : World} {look : Look} {allows_in : Bool} {pieces : List Piece} {n
         commas = commas_of allows_in a;
       }
 
-  pub from_conditional : look.level ≤ 3 → Read all bound pieces numbers (IsExpr e) (below allows_in 2) (E.conditional grammar allows_in) give → Part all look allows_in pieces numbers e
+  pub from_conditional : look.level ≤ 3 → Read all bound pieces numbers (IsExpr e) (below allows_in 2) (E.conditional grammar allows_in) give → Part all bound look allows_in pieces numbers e
   from_conditional le d =
       let a : Read all bound pieces numbers (IsExpr e) (below allows_in 2) (E.assignment grammar allows_in) give = assignment_of allows_in d in
       record {
         flows = flows;
         first = first;
-        bound = bound;
         operand = λ l. absurd (omega (arith, le, l));
         calls = λ l. absurd (omega (arith, le, l));
         members = λ l e. absurd (omega (arith, le, l));
@@ -287,12 +281,11 @@ module _ {all : World} {look : Look} {allows_in : Bool} {pieces : List Piece} {n
         commas = commas_of allows_in a;
       }
 
-  pub from_assignment : look.level ≤ 2 → Read all bound pieces numbers (IsExpr e) (below allows_in 2) (E.assignment grammar allows_in) give → Part all look allows_in pieces numbers e
+  pub from_assignment : look.level ≤ 2 → Read all bound pieces numbers (IsExpr e) (below allows_in 2) (E.assignment grammar allows_in) give → Part all bound look allows_in pieces numbers e
   from_assignment le a =
       record {
         flows = flows;
         first = first;
-        bound = bound;
         operand = λ l. absurd (omega (arith, le, l));
         calls = λ l. absurd (omega (arith, le, l));
         members = λ l e. absurd (omega (arith, le, l));
@@ -303,12 +296,11 @@ module _ {all : World} {look : Look} {allows_in : Bool} {pieces : List Piece} {n
         commas = commas_of allows_in a;
       }
 
-  pub from_commas : look.level ≤ 1 → Read all bound pieces numbers (IsExpr e) (below allows_in 2) (P.expression_by grammar (E.assignment grammar allows_in) allows_in) (repeat (P.more_commas grammar allows_in)) → Part all look allows_in pieces numbers e
+  pub from_commas : look.level ≤ 1 → Read all bound pieces numbers (IsExpr e) (below allows_in 2) (P.expression_by grammar (E.assignment grammar allows_in) allows_in) (repeat (P.more_commas grammar allows_in)) → Part all bound look allows_in pieces numbers e
   from_commas le c =
       record {
         flows = flows;
         first = first;
-        bound = bound;
         operand = λ l. absurd (omega (arith, le, l));
         calls = λ l. absurd (omega (arith, le, l));
         members = λ l e. absurd (omega (arith, le, l));

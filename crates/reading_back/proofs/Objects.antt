@@ -17,13 +17,14 @@ use Rattle.js_grammar.specs.Rest.{◌>>◌, give, next, expect, repeat}
 use Rattle.js_grammar.proofs.Laws.{repeated}
 use Rattle.script_text.specs.Pieces.{Piece, opening, closing, separated, behind_commas}
 use Rattle.script_text.specs.Tokens.{Shape, shape, form_of, tokens_from}
-use Rattle.reading_back.proofs.Claims.{World, Frame, Spot, rest_of, Leads, Ready, Read, anything, below, First, IsExpr, IsField, Part, FieldPart}
+use Rattle.reading_back.proofs.Claims.{Low, World, Frame, Spot, rest_of, Leads, Ready, Read, anything, below, First, IsExpr, IsField, Part, FieldPart}
 use Rattle.reading_back.proofs.Marks.{joins, begins_none, begins_unary, begins_statement, begins_other}
 use Rattle.reading_back.specs.Unplaced as unplaced
 use Rattle.reading_back.proofs.Flowing.{flows_last, flows_token, spread}
 use Rattle.reading_back.proofs.Ladder.{from_operand}
 use Rattle.reading_back.proofs.LooseOperators.{comma_is, comma_joins}
 use Rattle.reading_back.proofs.Same.{same_layers}
+use Rattle.script_nesting.specs.Highest.{highest}
 use Rattle.reading_back.proofs.Steps.{after, first_of_shapes, from, on, become, stays, bind, take, miss, expected, finishes}
 use Rattle.reading_back.proofs.TwoOperands.{ready_behind}
 use Rattle.reading_back.proofs.Words.{word_look}
@@ -44,7 +45,8 @@ pub record Property (all : World) : Type 0 where
   pub pieces : List Piece
   pub numbers : Numbers
   pub tree : Field
-  pub part : FieldPart all pieces numbers tree
+  pub bound : ℕ
+  pub part : FieldPart all bound pieces numbers tree
 
 right_brace_is : Marks.right_brace (form_of (codes "}")) ≡ Some tt
 unfolding form_of reserved_word
@@ -61,8 +63,7 @@ right_brace_joins false = refl
 
 module _ {all : World} where
   abbrev pub bounds : List (Property all) → ℕ
-  bounds [] = 0
-  bounds (x ∷ xs) = x.part.bound + bounds xs
+  bounds xs = highest (map (λ (x : Property all). x.bound) xs)
 
   abbrev pub pieces_all : List (Property all) → List (List Piece)
   pieces_all xs = map (λ (x : Property all). x.pieces) xs
@@ -87,7 +88,7 @@ module _ {all : World} where
       → Leads w nz (AreFields (model ++ trees (x ∷ xs))) c (tokens_from false (x.pieces ++ tail xs) ++ rest) rest (repeat (P.more_fields grammar) so_far) give
 
   -- a property, and then what follows it
-  one : (x : Property all) (xs : List (Property all)) (so_far : List Field) (w : Frame all) (c : Spot) (rest middle : List Shape) (nz : Numbers) {Js : List Field → Type 0} → w.opened + x.part.bound ≤ w.limit
+  one : (x : Property all) (xs : List (Property all)) (so_far : List Field) (w : Frame all) (c : Spot) (rest middle : List Shape) (nz : Numbers) {Js : List Field → Type 0} → w.opened + x.bound ≤ w.limit
       → tokens_from false (tail xs) ++ rest ≡ middle → below true 2 middle → Ready w c.functions (x.numbers ++ (numbers_all xs ++ nz))
       → ((y : Field) (d : Spot) → IsField x.tree y → Ready w d.functions (numbers_all xs ++ nz) → Leads w nz Js d middle rest
       (next Marks.comma (λ _. repeat (P.more_fields grammar) (so_far ++ (y ∷ []))) (expect Marks.right_brace >> give (so_far ++ (y ∷ [])))) give)
@@ -143,7 +144,7 @@ object_first fields = record {
   plain = λ s. absurd (cc);
 }
 
-module _ {all : World} (at : Place) (form : ExprForm) (xs : List (Property all)) where
+module _ {all : World} (at : Place) (form : ExprForm) (low : Low all (record { at = at; form = form })) (xs : List (Property all)) where
   object_reads : out-ExprForm form ≡ ExprForm-F.ObjectLit (trees xs)
       → Read all (bounds xs) (object_pieces (pieces_all xs)) (numbers_all xs) (IsExpr (record { at = at; form = form })) anything (P.operand grammar) give
   unfolding P.object_behind
@@ -153,10 +154,10 @@ module _ {all : World} (at : Place) (form : ExprForm) (xs : List (Property all))
         let d = after c (shape (form_of (codes "{")) line) in
         from {d = d} (operand_object w c line (tokens_from false (separated (λ f. f) (pieces_all xs) ++ closing (codes "}")) ++ rest))
         (bind (fields_lead xs w d rest nz room ready) (λ ys f are done.
-        finishes {c = f} p (e.ObjectLit ys) (same_layers p at (e.ObjectLit ys) form _ _ (e.outs-ObjectLit ys) is (ap ExprForm-F.ObjectLit are.same)) done));
+        finishes {c = f} p (e.ObjectLit ys) low (same_layers p at (e.ObjectLit ys) form _ _ (e.outs-ObjectLit ys) is (ap ExprForm-F.ObjectLit are.same)) done));
   }
 
   pub object_part : {allows_in : Bool} → out-ExprForm form ≡ ExprForm-F.ObjectLit (trees xs)
-      → Part all (word_look true) allows_in (object_pieces (pieces_all xs)) (numbers_all xs) (record { at = at; form = form })
+      → Part all (bounds xs) (word_look true) allows_in (object_pieces (pieces_all xs)) (numbers_all xs) (record { at = at; form = form })
   object_part is = from_operand (flows_last (opening (codes "{") ++ separated (λ f. f) (pieces_all xs)) (closing (codes "}")) (flows_token (codes "}") true _))
       (object_first (pieces_all xs)) (bounds xs) (omega arith) (object_reads is)

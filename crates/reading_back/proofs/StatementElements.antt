@@ -1,5 +1,5 @@
 -- Statements and function declarations as elements of a script or body (14).
-use Rattle.std.proofs.Common.{◌≡◌, Bool, true, false, List, [], ◌∷◌, ◌++◌, refl, ap, sym, ◌∙◌}
+use Rattle.std.proofs.Common.{◌≡◌, Bool, true, false, List, [], ◌∷◌, ◌++◌, refl, ap, sym, ◌∙◌, ℕ, ◌≤◌, arith}
 use Rattle.std.specs.Prelude.{codes, slice_get, Option, Some, None, Ok, Err}
 use Rattle.js_value.specs.declared.place.FuncNo.{FuncNo}
 use Rattle.js_value.specs.declared.place.Place.{Place}
@@ -24,9 +24,11 @@ use Rattle.js_grammar.specs.Statements as S
 use Rattle.script_text.specs.Pieces.{Piece, word}
 use Rattle.script_text.specs.Tokens.{Shape, shape, form_of, tokens_from}
 use Rattle.reading_back.proofs.Claims.{World, Frame, Spot, rest_of, FunctionsRead}
-use Rattle.reading_back.proofs.StatementClaims.{ends_list, StmtPart, ElementPart}
+use Rattle.reading_back.proofs.StatementClaims.{LowStmt, ends_list, StmtPart, ElementPart}
 use Rattle.reading_back.proofs.Flowing.{flows_token}
 use Rattle.reading_back.proofs.StatementSteps.{same_stmts, token_first, finishes_stmt}
+use Rattle.script_nesting.specs.Height as height
+use Rattle.script_nesting.proofs.Equations.{stmt_heights, stmt_height_is}
 use Rattle.reading_back.proofs.Steps.{from, bind, next_some}
 
 -- ---- a statement that reads is no function declaration
@@ -94,11 +96,10 @@ element_is w c t line zs x done = by (Marks.function_word t) refl
     by None e = element_none w c t line zs e
     by (Some u) e = absurd (two _ (sym (no_function w c t line zs e) ∙ done))
 
-pub element_of : {all : World} {ends : Bool} {pieces : List Piece} {numbers : Numbers} {t : Stmt} → StmtPart all ends pieces numbers t → ElementPart all ends pieces numbers t
+pub element_of : {all : World} {bound : ℕ} {ends : Bool} {pieces : List Piece} {numbers : Numbers} {t : Stmt} → StmtPart all bound ends pieces numbers t → ElementPart all bound ends pieces numbers t
 element_of {pieces = pieces} p = record {
   flows = p.flows;
   first = p.first;
-  bound = p.bound;
   reads = record {
     at = λ w c line rest nz room ready fits.
         let h = p.reads.at w c line rest nz room ready fits in
@@ -122,18 +123,22 @@ declares : {all : World} (w : Frame all) (c : Spot) (line : Bool) (zs : List Sha
 unfolding S.element form_of reserved_word
 declares w c line zs = refl
 
-module _ {all : World} {function : Bool → FuncNo → List Piece} (reads : FunctionsRead all function) (at : Place) (form : StmtForm) (f : FuncNo) where
+module _ {all : World} {function : Bool → FuncNo → List Piece} {inside : FuncNo → ℕ} (reads : FunctionsRead all function inside) (at : Place) (form : StmtForm) (low : LowStmt all (record { at = at; form = form })) (f : FuncNo) where
+  short : out-StmtForm form ≡ StmtForm-F.FuncDecl f → all.tall f ≤ all.high
+  short is =
+      let same : height.of_stmt_form all.tall (stmt_heights all.tall (out-StmtForm form)) ≡ all.tall f = ap (λ l. height.of_stmt_form all.tall (stmt_heights all.tall l)) is in
+      omega (arith, low.within, stmt_height_is all.tall (record { at = at; form = form }), same)
+
   pub declaration_part : out-StmtForm form ≡ StmtForm-F.FuncDecl f → has_name (slice_get all.functions f.0) ≡ true
-      → ElementPart all false (word (codes "function") ++ function true f) (f.0 ∷ []) (record { at = at; form = form })
+      → ElementPart all (inside f) false (word (codes "function") ++ function true f) (f.0 ∷ []) (record { at = at; form = form })
   declaration_part is named = record {
     flows = reads.ends true f (word (codes "function")) (flows_token (codes "function") false _);
     first = token_first (codes "function") false _ _ function_first;
-    bound = reads.bound;
     reads = record {
       at = λ w c line rest nz room ready fits.
           let p = (c.supply 0).0 in
           from {d = c} (declares w c line (tokens_from false (function true f) ++ rest))
-          (bind ((reads.declaration f p named).at w c line rest nz room ready tt) (λ g d number done.
-          finishes_stmt p (s.FuncDecl g) (same_stmts p at (s.FuncDecl g) form _ _ (s.outs-FuncDecl g) is (ap (λ h. StmtForm-F.FuncDecl h) number.same)) done));
+          (bind ((reads.declaration f p (short is) named).at w c line rest nz room ready tt) (λ g d number done.
+          finishes_stmt p (s.FuncDecl g) low (same_stmts p at (s.FuncDecl g) form _ _ (s.outs-FuncDecl g) is (ap (λ h. StmtForm-F.FuncDecl h) number.same)) done));
     };
   }

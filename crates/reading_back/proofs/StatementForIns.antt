@@ -1,5 +1,5 @@
 -- `for`-`in` (12.6.4).
-use Rattle.std.proofs.Common.{◌≡◌, ◌≤◌, ℕ, ◌+◌, Bool, true, false, List, [], ◌∷◌, ◌++◌, refl, ap, sym, ◌∙◌, subst, arith, append_assoc}
+use Rattle.std.proofs.Common.{◌≡◌, ◌≤◌, ℕ, ◌+◌, Bool, true, false, List, [], ◌∷◌, ◌++◌, refl, ap, sym, ◌∙◌, subst, arith, append_assoc, suc, max}
 use Rattle.std.specs.Prelude.{codes, Some, None}
 use Rattle.js_value.specs.declared.place.Place.{Place}
 use Rattle.js_tree.specs.Lexing.{reserved_word}
@@ -23,7 +23,7 @@ use Rattle.script_text.specs.Pieces.{Piece, word, opening, closing}
 use Rattle.script_text.specs.Tokens.{Shape, shape, form_of, name_form, tokens_from}
 use Rattle.reading_back.proofs.Claims.{World, Frame, Spot, rest_of, deeper, Leads, Ready, Read, Flows, IsExpr, Fit}
 use Rattle.reading_back.proofs.Marks.{joins}
-use Rattle.reading_back.proofs.StatementClaims.{IsStmt, NoElse, StmtPart}
+use Rattle.reading_back.proofs.StatementClaims.{LowStmt, IsStmt, NoElse, StmtPart}
 use Rattle.reading_back.specs.Unplaced as unplaced
 use Rattle.reading_back.proofs.Flowing.{flows_last, spread}
 use Rattle.reading_back.proofs.FunctionNames.{IsDeclared, name_lead}
@@ -48,20 +48,18 @@ in_joins = refl
 
 -- ---- what is assigned to
 
-pub record TargetPart (all : World) (pf : List Piece) (numbers : Numbers) (to : ForTarget) : Type 0 where
-  pub bound : ℕ
+pub record TargetPart (all : World) (bound : ℕ) (pf : List Piece) (numbers : Numbers) (to : ForTarget) : Type 0 where
   pub flows : Flows pf
   pub reads : (mold : Stmt → StmtLayer) (w : Frame all) (c : Spot) (zs rest : List Shape) (nz nr : Numbers) → w.opened + bound ≤ w.limit → Ready w c.functions (numbers ++ nz)
       → ((f : ForTarget) (d : Spot) → unplaced.for_target f ≡ unplaced.for_target to → Ready w d.functions nz → Leads w nr (IsHeader mold) d zs rest (S.for_in grammar f) give)
       → Leads w nr (IsHeader mold) c (tokens_from false pf ++ (in_shape ∷ zs)) rest (S.for_header grammar) give
 
-module _ {all : World} {starts : Bool} {pf : List Piece} {nf : Numbers} {e : Expr} where
-  pub expression_target : Fit all 16 starts false pf nf e → E.is_target e ≡ true → TargetPart all pf nf (target.Expr e)
+module _ {all : World} {bf : ℕ} {starts : Bool} {pf : List Piece} {nf : Numbers} {e : Expr} where
+  pub expression_target : Fit all bf 16 starts false pf nf e → E.is_target e ≡ true → TargetPart all bf pf nf (target.Expr e)
   unfolding S.for_expression
   expression_target f is_target =
-      let g : Fit all 1 starts false pf nf e = record { look = f.look; enough = omega (arith, f.enough); plain = f.plain; part = f.part } in
+      let g : Fit all bf 1 starts false pf nf e = record { look = f.look; enough = omega (arith, f.enough); plain = f.plain; part = f.part } in
       record {
-        bound = f.part.bound;
         flows = f.part.flows;
         reads = λ mold w c zs rest nz nr room ready go.
             from {d = c} {n = behind_sees false} (header_is w c (tokens_from false pf ++ (in_shape ∷ zs)) None (no_semicolon g (in_shape ∷ zs)))
@@ -72,10 +70,9 @@ module _ {all : World} {starts : Bool} {pf : List Piece} {nf : Numbers} {e : Exp
             (go (target.Expr x) (after d in_shape) (ap (λ v. target.Expr v) is.same) done)))));
       }
 
-pub var_target : {all : World} (at : Place) (text : List ℕ) → IsDeclared text → TargetPart all (word (codes "var") ++ name text) [] (target.Var at text)
+pub var_target : {all : World} (at : Place) (text : List ℕ) → IsDeclared text → TargetPart all 0 (word (codes "var") ++ name text) [] (target.Var at text)
 unfolding S.for_var
 var_target at text declared = record {
-  bound = 0;
   flows = record { at = λ line more. refl };
   reads = λ mold w c zs rest nz nr room ready go.
       let v = shape (form_of (codes "var")) false in
@@ -110,8 +107,8 @@ module _ {e : Expr} (f to : ForTarget) (f_is : unplaced.for_target f ≡ unplace
         ∙ ap (λ v. StmtForm-F.ForIn (unplaced.for_target to) (unplaced.expr e) v) isy.same);
   }
 
-module _ {all : World} {se : Bool} {pe : List Piece} {ne : Numbers} {e : Expr} (f to : ForTarget) (f_is : unplaced.for_target f ≡ unplaced.for_target to) where
-  in_lead : (object : Fit all 1 se true pe ne e) (w : Frame all) (c : Spot) (rest : List Shape) (nz : Numbers) → w.opened + object.part.bound ≤ w.limit → Ready w c.functions (ne ++ nz)
+module _ {all : World} {be : ℕ} {se : Bool} {pe : List Piece} {ne : Numbers} {e : Expr} (f to : ForTarget) (f_is : unplaced.for_target f ≡ unplaced.for_target to) where
+  in_lead : (object : Fit all be 1 se true pe ne e) (w : Frame all) (c : Spot) (rest : List Shape) (nz : Numbers) → w.opened + be ≤ w.limit → Ready w c.functions (ne ++ nz)
       → Leads w nz (IsHeader (λ body. StmtForm-F.ForIn to e body)) c (tokens_from false pe ++ (right_parenthesis ∷ rest)) rest (S.for_in grammar f) give
   unfolding S.for_in
   in_lead object w c rest nz room ready =
@@ -119,25 +116,24 @@ module _ {all : World} {se : Bool} {pe : List Piece} {ne : Numbers} {e : Expr} (
       expected {c = d} {s = right_parenthesis} Marks.right_parenthesis tt _ right_parenthesis_is
       (stays {c = after d right_parenthesis} (λ body. s.ForIn f x body) give (in_same f to f_is x is) done))
 
-module _ {all : World} {se ends : Bool} {pf pe pb : List Piece} {nf ne nb : Numbers} {to : ForTarget} {e : Expr} {body : Stmt} (at : Place) (form : StmtForm) where
-  in_reads : out-StmtForm form ≡ StmtForm-F.ForIn to e body → (t : TargetPart all pf nf to) (object : Fit all 1 se true pe ne e) (p : StmtPart all ends pb nb body)
-      → Read all ((t.bound + object.part.bound + 1) + p.bound + 1) (in_pieces pf pe ++ pb) ((nf ++ ne) ++ nb) (IsStmt (record { at = at; form = form })) (NoElse ends) (S.statement grammar) give
+module _ {all : World} {bf be bb : ℕ} {se ends : Bool} {pf pe pb : List Piece} {nf ne nb : Numbers} {to : ForTarget} {e : Expr} {body : Stmt} (at : Place) (form : StmtForm) (low : LowStmt all (record { at = at; form = form })) where
+  in_reads : out-StmtForm form ≡ StmtForm-F.ForIn to e body → (t : TargetPart all bf pf nf to) (object : Fit all be 1 se true pe ne e) (p : StmtPart all bb ends pb nb body)
+      → Read all (max (suc (max bf be)) (suc bb)) (in_pieces pf pe ++ pb) ((nf ++ ne) ++ nb) (IsStmt (record { at = at; form = form })) (NoElse ends) (S.statement grammar) give
   in_reads is t object p = record {
     at = λ w c line rest nz room ready fits.
         let mold : Stmt → StmtLayer = λ body. StmtForm-F.ForIn to e body in
         let shapes = tokens_from false pe ++ (right_parenthesis ∷ (tokens_from false pb ++ rest)) in
         on (spread_in pf pe pb t.flows object.part.flows line rest)
-        (header_lead p at form mold is (t.bound + object.part.bound + 1) w c line (tokens_from false pf ++ (in_shape ∷ shapes)) rest nz room (opened_before (tokens_from false pf) in_shape shapes) fits (λ d there.
+        (header_lead p at form low mold is (max bf be) w c line (tokens_from false pf ++ (in_shape ∷ shapes)) rest nz room (opened_before (tokens_from false pf) in_shape shapes) fits (λ d there.
         t.reads mold (deeper w) d shapes (tokens_from false pb ++ rest) (ne ++ (nb ++ nz)) (nb ++ nz) (omega (arith, room)) (subst (λ (e : Spot). Ready (deeper w) e.functions (nf ++ (ne ++ (nb ++ nz)))) (sym there)
         (opens c.functions _ (ready_behind c.functions nf ne (nb ++ nz) (ready_behind c.functions (nf ++ ne) nb nz ready)))) (λ g h g_is readyh.
         in_lead g to g_is object (deeper w) h (tokens_from false pb ++ rest) (nb ++ nz) (omega (arith, room)) readyh)));
   }
 
-  pub for_in_part : out-StmtForm form ≡ StmtForm-F.ForIn to e body → TargetPart all pf nf to → Fit all 1 se true pe ne e → StmtPart all ends pb nb body
-      → StmtPart all ends (in_pieces pf pe ++ pb) ((nf ++ ne) ++ nb) (record { at = at; form = form })
+  pub for_in_part : out-StmtForm form ≡ StmtForm-F.ForIn to e body → TargetPart all bf pf nf to → Fit all be 1 se true pe ne e → StmtPart all bb ends pb nb body
+      → StmtPart all (max (suc (max bf be)) (suc bb)) ends (in_pieces pf pe ++ pb) ((nf ++ ne) ++ nb) (record { at = at; form = form })
   for_in_part is t object p = record {
     flows = flows_last (in_pieces pf pe) pb p.flows;
     first = token_first (codes "for") false _ _ for_first;
-    bound = (t.bound + object.part.bound + 1) + p.bound + 1;
     reads = in_reads is t object p;
   }

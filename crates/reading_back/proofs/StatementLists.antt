@@ -25,10 +25,11 @@ use Rattle.script_text.specs.Pieces.{Piece, LineEnd, Close, word, opening, closi
 use Rattle.script_text.specs.Statements.{Shown, lines, line, block, in_braces, begin_braces, end_braces, is_empty}
 use Rattle.script_text.specs.Tokens.{Shape, shape, form_of, tokens_from}
 use Rattle.reading_back.proofs.Claims.{World, Frame, Spot, rest_of, Leads, Ready, Flows}
-use Rattle.reading_back.proofs.StatementClaims.{IsStmt, ends_list, StmtFirst, is_else, is_finally, StmtPart}
+use Rattle.reading_back.proofs.StatementClaims.{LowStmt, IsStmt, ends_list, StmtFirst, is_else, is_finally, StmtPart}
 use Rattle.reading_back.specs.Unplaced as unplaced
 use Rattle.reading_back.proofs.Flowing.{flows_last, flows_token, spread}
 use Rattle.reading_back.proofs.StatementSteps.{same_stmts, begins_with, token_first, finishes_stmt, stmt_reads}
+use Rattle.script_nesting.specs.Opened.{of_stmts}
 use Rattle.reading_back.proofs.Steps.{after, from, on, become, stays, bind, expected}
 use Rattle.reading_back.proofs.TwoOperands.{ready_behind}
 
@@ -49,7 +50,8 @@ pub record Line (all : World) : Type 0 where
   pub numbers : Numbers
   pub tree : Stmt
   pub ends_in_if : Bool
-  pub part : StmtPart all ends_in_if shown.pieces numbers tree
+  pub bound : ℕ
+  pub part : StmtPart all bound ends_in_if shown.pieces numbers tree
 
 no_else_shape : (t : TokenForm) → ends_list t ≡ false → (is_some (Marks.else_word t) || is_some (Marks.finally_word t)) ≡ false
 no_else_shape t e =
@@ -72,8 +74,7 @@ no_finally (s ∷ ss) e = by (is_some (Marks.else_word s.form)) (is_some (Marks.
 
 module _ {all : World} where
   abbrev pub bound_lines : List (Line all) → ℕ
-  bound_lines [] = 0
-  bound_lines (x ∷ xs) = x.part.bound + 1 + bound_lines xs
+  bound_lines xs = of_stmts (map (λ (x : Line all). x.bound) xs)
 
   abbrev pub shown_lines : List (Line all) → List Shown
   shown_lines xs = map (λ (x : Line all). x.shown) xs
@@ -217,9 +218,9 @@ block_first : ends_list (form_of (codes "{")) ≡ false
 unfolding form_of reserved_word
 block_first = refl
 
-module _ {all : World} (at : Place) (form : StmtForm) (xs : List (Line all)) where
-  pub block_part : out-StmtForm form ≡ StmtForm-F.Block (tree_lines xs) → StmtPart all false (block (λ s. s) (shown_lines xs)) (numbers_lines xs) (record { at = at; form = form })
-  block_part is = record { flows = block_flows xs; first = first xs; bound = bound_lines xs; reads = record { at = λ w c line rest nz room ready fits. by xs is w c line rest nz room ready } }
+module _ {all : World} (at : Place) (form : StmtForm) (low : LowStmt all (record { at = at; form = form })) (xs : List (Line all)) where
+  pub block_part : out-StmtForm form ≡ StmtForm-F.Block (tree_lines xs) → StmtPart all (bound_lines xs) false (block (λ s. s) (shown_lines xs)) (numbers_lines xs) (record { at = at; form = form })
+  block_part is = record { flows = block_flows xs; first = first xs; reads = record { at = λ w c line rest nz room ready fits. by xs is w c line rest nz room ready } }
     where
       first : (ys : List (Line all)) → StmtFirst (block (λ s. s) (shown_lines ys))
       first [] = token_first (codes "{") false _ _ block_first
@@ -234,8 +235,8 @@ module _ {all : World} (at : Place) (form : StmtForm) (xs : List (Line all)) whe
       by [] e w c begins rest nz room ready =
           begins_with {c = c} (codes "{") S.Block block_begins
           (bind (empty_read w (after c (shape (form_of (codes "{")) begins)) rest nz ready) (λ us d are done.
-          finishes_stmt (c.supply 0).0 (s.Block us) (finish [] us (c.supply 0).0 e are) done))
+          finishes_stmt (c.supply 0).0 (s.Block us) low (finish [] us (c.supply 0).0 e are) done))
       by (y ∷ ys) e w c begins rest nz room ready =
           on (ap (λ ps. tokens_from begins ps ++ rest) (block_is y ys)) (begins_with {c = c} (codes "{") S.Block block_begins
           (bind (braces_read (y ∷ ys) w (after c (shape (form_of (codes "{")) begins)) rest nz room ready) (λ us d are done.
-          finishes_stmt (c.supply 0).0 (s.Block us) (finish (y ∷ ys) us (c.supply 0).0 e are) done)))
+          finishes_stmt (c.supply 0).0 (s.Block us) low (finish (y ∷ ys) us (c.supply 0).0 e are) done)))

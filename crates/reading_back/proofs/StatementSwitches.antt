@@ -1,5 +1,5 @@
 -- `switch` (12.11).
-use Rattle.std.proofs.Common.{◌≡◌, ◌≤◌, ℕ, ◌+◌, Bool, true, false, List, [], ◌∷◌, ◌++◌, map, refl, ap, sym, ◌∙◌, subst, arith, append_assoc, append-nil}
+use Rattle.std.proofs.Common.{◌≡◌, ◌≤◌, ℕ, ◌+◌, Bool, true, false, List, [], ◌∷◌, ◌++◌, map, refl, ap, sym, ◌∙◌, subst, arith, append_assoc, append-nil, suc, max}
 use Rattle.std.specs.Prelude.{◌||◌, codes, Option, Some, None, is_some, Result, Ok, Err}
 use Rattle.std.specs.List.{flat_map}
 use Rattle.std.specs.Option.{option_map}
@@ -28,7 +28,7 @@ use Rattle.script_text.specs.Pieces.{Piece, Open, Close, LineEnd, word, closing}
 use Rattle.script_text.specs.Statements.{clause, in_switch, begin_braces, end_braces, is_empty}
 use Rattle.script_text.specs.Tokens.{Shape, shape, form_of, tokens_from}
 use Rattle.reading_back.proofs.Claims.{World, Frame, Spot, rest_of, Leads, Ready, Read, Flows, Fit}
-use Rattle.reading_back.proofs.StatementClaims.{IsStmt, ends_list, is_else, NoElse, StmtPart}
+use Rattle.reading_back.proofs.StatementClaims.{LowStmt, IsStmt, ends_list, is_else, NoElse, StmtPart}
 use Rattle.reading_back.specs.Unplaced as unplaced
 use Rattle.reading_back.proofs.Flowing.{flows_last, flows_token, spread}
 use Rattle.reading_back.proofs.Groups.{expression_reads}
@@ -36,6 +36,7 @@ use Rattle.reading_back.proofs.LooseOperators.{colon_is, colon_joins}
 use Rattle.reading_back.proofs.StatementFors.{Opt, opt_bound, opt_numbers, opt_tree}
 use Rattle.reading_back.proofs.StatementLists.{AreStmts, Line, bound_lines, pieces_lines, numbers_lines, tree_lines, GoesOn, lines_read, right_brace_is, left_brace_is, not_empty}
 use Rattle.reading_back.proofs.StatementSteps.{unplaced_case, same_stmts, begins_with, token_first, finishes_stmt, head_pieces, split_head, head_reads}
+use Rattle.script_nesting.specs.Highest.{highest}
 use Rattle.reading_back.proofs.Steps.{after, from, on, become, stays, bind, take, miss, expected}
 use Rattle.reading_back.proofs.TwoOperands.{ready_behind}
 
@@ -84,8 +85,7 @@ module _ {all : World} where
   clauses_pieces cs = flat_map (λ c. c) (map clause_pieces cs)
 
   abbrev pub clauses_bound : List (Clause all) → ℕ
-  clauses_bound [] = 0
-  clauses_bound (c ∷ cs) = opt_bound c.test + bound_lines c.lines + clauses_bound cs
+  clauses_bound cs = highest (map (λ (c : Clause all). max (opt_bound c.test) (bound_lines c.lines)) cs)
 
   abbrev pub clauses_numbers : List (Clause all) → Numbers
   clauses_numbers [] = []
@@ -247,7 +247,7 @@ module _ {all : World} (cs : List (Clause all)) (rest : List Shape) (nz : Number
         (go (model ++ (c.tree ∷ [])) (so_far ++ (x ∷ [])) seen w f (one_more model so_far c.tree x same is) few room ready)
 
     one_clause : (o : Option (Opt all)) (seen : Bool) → out-Case c.tree ≡ record { test = opt_tree o; body = tree_lines c.lines } → flag seen + (one_default o + defaults cs) ≤ 1
-        → w.opened + (opt_bound o + bound_lines c.lines + clauses_bound cs) ≤ w.limit → Ready w d.functions (((opt_numbers o ++ numbers_lines c.lines) ++ clauses_numbers cs) ++ nz)
+        → w.opened + max (max (opt_bound o) (bound_lines c.lines)) (clauses_bound cs) ≤ w.limit → Ready w d.functions (((opt_numbers o ++ numbers_lines c.lines) ++ clauses_numbers cs) ++ nz)
         → Leads w nz (AreCases (model ++ (c.tree ∷ clauses_trees cs))) d (tokens_from true ((clause (label_pieces o) (pieces_lines c.lines) ++ clauses_pieces cs) ++ end_braces) ++ rest) rest (again (so_far, seen)) give
     one_clause None true is few room ready = absurd (omega (arith, few))
     one_clause None false is few room ready =
@@ -270,7 +270,7 @@ module _ {all : World} (cs : List (Clause all)) (rest : List Shape) (nz : Number
         (bind (tested o is (after d t) (clauses_numbers cs ++ nz) (omega (arith, room)) (ready_behind d.functions no nl (clauses_numbers cs ++ nz) (ready_behind d.functions (no ++ nl) (clauses_numbers cs) nz ready))) (λ x f isx readyx.
         behind_one seen x f isx (omega (arith, few)) (omega (arith, room)) readyx)))))
       where
-        tested : (o : Opt all) → out-Case c.tree ≡ record { test = Some o.tree; body = tree_lines c.lines } → (d : Spot) (nb : Numbers) → w.opened + (o.fit.part.bound + bound_lines c.lines) ≤ w.limit → Ready w d.functions (o.numbers ++ (numbers_lines c.lines ++ nb))
+        tested : (o : Opt all) → out-Case c.tree ≡ record { test = Some o.tree; body = tree_lines c.lines } → (d : Spot) (nb : Numbers) → w.opened + max o.bound (bound_lines c.lines) ≤ w.limit → Ready w d.functions (o.numbers ++ (numbers_lines c.lines ++ nb))
             → Leads w nb (IsCase c.tree) d (tokens_from false o.pieces ++ behind_label c cs rest) (left_shapes cs rest) (S.tested_case grammar) give
         tested o is d nb room ready =
             bind ((expression_reads o.fit.part).at w d false (behind_label c cs rest) (numbers_lines c.lines ++ nb) (omega (arith, room)) ready (omega (arith, colon_joins true))) (λ x f isx readyx.
@@ -317,9 +317,9 @@ module _ {all : World} where
       on (ap (λ ps. tokens_from false ps ++ rest) (body_is c cs))
       (expected {c = d} {s = b} Marks.left_brace tt _ left_brace_is (clauses_lead (c ∷ cs) rest nz [] [] false w (after d b) (record { same = refl }) (omega (arith, few)) room ready))
 
-module _ {all : World} {se : Bool} {pe : List Piece} {ne : Numbers} {e : Expr} (at : Place) (form : StmtForm) (cs : List (Clause all)) where
-  switch_reads : out-StmtForm form ≡ StmtForm-F.Switch e (clauses_trees cs) → defaults cs ≤ 1 → (f : Fit all 1 se true pe ne e)
-      → Read all (f.part.bound + clauses_bound cs + 1) (head_pieces (codes "switch") pe ++ body_pieces cs) (ne ++ clauses_numbers cs) (IsStmt (record { at = at; form = form })) (NoElse false) (S.statement grammar) give
+module _ {all : World} {be : ℕ} {se : Bool} {pe : List Piece} {ne : Numbers} {e : Expr} (at : Place) (form : StmtForm) (low : LowStmt all (record { at = at; form = form })) (cs : List (Clause all)) where
+  switch_reads : out-StmtForm form ≡ StmtForm-F.Switch e (clauses_trees cs) → defaults cs ≤ 1 → (f : Fit all be 1 se true pe ne e)
+      → Read all (max (suc be) (clauses_bound cs)) (head_pieces (codes "switch") pe ++ body_pieces cs) (ne ++ clauses_numbers cs) (IsStmt (record { at = at; form = form })) (NoElse false) (S.statement grammar) give
   unfolding S.switch_behind
   switch_reads is few f = record {
     at = λ w c line rest nz room ready fits.
@@ -330,7 +330,7 @@ module _ {all : World} {se : Bool} {pe : List Piece} {ne : Numbers} {e : Expr} (
         (bind (head_reads f w o (tokens_from false (body_pieces cs) ++ rest) (clauses_numbers cs ++ nz) (omega (arith, room)) (ready_behind c.functions ne (clauses_numbers cs) nz ready)) (λ x d isx readyx.
         from {d = d} {n = (expect Marks.left_brace >>= λ _. again ([], false)) >>= λ ys. finish_stmt p (s.Switch x ys)} (regrouped p x (rest_of w d (tokens_from false (body_pieces cs) ++ rest)))
         (bind (body_lead cs w d rest nz few (omega (arith, room)) readyx) (λ ys g are done.
-        finishes_stmt p (s.Switch x ys) (same_stmts p at (s.Switch x ys) form _ _ (s.outs-Switch x ys) is
+        finishes_stmt p (s.Switch x ys) low (same_stmts p at (s.Switch x ys) form _ _ (s.outs-Switch x ys) is
         (ap (λ v. StmtForm-F.Switch v (map unplaced_case ys)) isx.same ∙ ap (λ v. StmtForm-F.Switch (unplaced.expr e) v) are.same)) done)))));
   }
     where
@@ -341,11 +341,10 @@ module _ {all : World} {se : Bool} {pe : List Piece} {ne : Numbers} {e : Expr} (
           by (Ok y) = refl
           by (Err f) = refl
 
-  pub switch_part : out-StmtForm form ≡ StmtForm-F.Switch e (clauses_trees cs) → defaults cs ≤ 1 → Fit all 1 se true pe ne e
-      → StmtPart all false (head_pieces (codes "switch") pe ++ body_pieces cs) (ne ++ clauses_numbers cs) (record { at = at; form = form })
+  pub switch_part : out-StmtForm form ≡ StmtForm-F.Switch e (clauses_trees cs) → defaults cs ≤ 1 → Fit all be 1 se true pe ne e
+      → StmtPart all (max (suc be) (clauses_bound cs)) false (head_pieces (codes "switch") pe ++ body_pieces cs) (ne ++ clauses_numbers cs) (record { at = at; form = form })
   switch_part is few f = record {
     flows = flows_last (head_pieces (codes "switch") pe) (body_pieces cs) (body_flows cs);
     first = token_first (codes "switch") false _ _ switch_first;
-    bound = f.part.bound + clauses_bound cs + 1;
     reads = switch_reads is few f;
   }

@@ -1,5 +1,5 @@
 -- `try` with its handler and its last part (12.14).
-use Rattle.std.proofs.Common.{◌≡◌, ◌≤◌, ℕ, ◌+◌, Bool, true, false, cond, List, [], ◌∷◌, ◌++◌, map, refl, ap, sym, ◌∙◌, subst, arith, append_assoc, append-nil}
+use Rattle.std.proofs.Common.{◌≡◌, ◌≤◌, ℕ, ◌+◌, Bool, true, false, cond, List, [], ◌∷◌, ◌++◌, map, refl, ap, sym, ◌∙◌, subst, arith, append_assoc, append-nil, max}
 use Rattle.std.specs.Prelude.{◌||◌, codes, Option, Some, None, is_some}
 use Rattle.std.specs.Option.{option_map}
 use Rattle.js_value.specs.declared.place.Place.{Place}
@@ -28,7 +28,7 @@ use Rattle.script_text.specs.Pieces.{Piece, Bind, Release, word}
 use Rattle.script_text.specs.Statements.{block, catch_head, binding}
 use Rattle.script_text.specs.Tokens.{Shape, shape, form_of, name_form, tokens_from}
 use Rattle.reading_back.proofs.Claims.{World, Frame, Spot, rest_of, deeper, Leads, Ready, Read, Flows}
-use Rattle.reading_back.proofs.StatementClaims.{IsStmt, ends_list, is_finally, NoElse, StmtPart}
+use Rattle.reading_back.proofs.StatementClaims.{LowStmt, IsStmt, ends_list, is_finally, NoElse, StmtPart}
 use Rattle.reading_back.specs.Unplaced as unplaced
 use Rattle.reading_back.proofs.Flowing.{flows_last, spread}
 use Rattle.reading_back.proofs.FunctionBodies.{flows_release}
@@ -63,9 +63,8 @@ unfolding form_of reserved_word
 try_first = refl
 
 -- a handler or a last part, as it is printed, or none; where there is none, such a word doesn't stand behind
-pub record MaybePart (all : World) {A : Type 0} (pieces : List Piece) (numbers : Numbers) (o : Option A) (unplace : A → A) (want : TokenForm → Option (Unit {0})) (read : Reading (Option A)) : Type 0 where
+pub record MaybePart (all : World) (bound : ℕ) {A : Type 0} (pieces : List Piece) (numbers : Numbers) (o : Option A) (unplace : A → A) (want : TokenForm → Option (Unit {0})) (read : Reading (Option A)) : Type 0 where
   pub ends : (before : List Piece) → Flows before → Flows (before ++ pieces)
-  pub bound : ℕ
   pub reads : (w : Frame all) (c : Spot) (rest : List Shape) (nz : Numbers) → w.opened + bound ≤ w.limit → Ready w c.functions (numbers ++ nz) → (o ≡ None → first_of_shapes want rest ≡ None)
       → Leads w nz (λ (p : Option A). option_map unplace p ≡ option_map unplace o) c (tokens_from false pieces ++ rest) rest read give
 
@@ -83,17 +82,15 @@ catch_layer c at text body e =
     ∙ ap (λ (l : Catch-F StmtForm Case Catch Finally Stmt). roll-Catch (record { at = place 0; name = l.name; body = map unplaced.stmt l.body })) e
 
 module _ {all : World} where
-  pub no_handler : MaybePart all [] [] None unplaced_catch Marks.catch_word (S.catch_part grammar)
+  pub no_handler : MaybePart all 0 [] [] None unplaced_catch Marks.catch_word (S.catch_part grammar)
   no_handler = record {
     ends = λ before h. subst Flows (sym (append-nil before)) h;
-    bound = 0;
     reads = λ w c rest nz room ready none. miss Marks.catch_word _ _ (none refl) (stays None give refl ready);
   }
 
-  pub no_last : MaybePart all [] [] None unplaced_finally Marks.finally_word (S.finally_part grammar)
+  pub no_last : MaybePart all 0 [] [] None unplaced_finally Marks.finally_word (S.finally_part grammar)
   no_last = record {
     ends = λ before h. subst Flows (sym (append-nil before)) h;
-    bound = 0;
     reads = λ w c rest nz room ready none. miss Marks.finally_word _ _ (none refl) (stays None give refl ready);
   }
 
@@ -101,10 +98,9 @@ module _ {all : World} where
     abbrev inside : List Piece
     inside = block (λ s. s) (shown_lines xs)
 
-    pub last_part : (f : Finally) → out-Finally f ≡ record { body = tree_lines xs } → MaybePart all (finally_pieces inside) (numbers_lines xs) (Some f) unplaced_finally Marks.finally_word (S.finally_part grammar)
+    pub last_part : (f : Finally) → out-Finally f ≡ record { body = tree_lines xs } → MaybePart all (bound_lines xs) (finally_pieces inside) (numbers_lines xs) (Some f) unplaced_finally Marks.finally_word (S.finally_part grammar)
     last_part f is = record {
       ends = λ before h. flows_last before (finally_pieces inside) (flows_last (word (codes "finally")) inside (block_flows xs));
-      bound = bound_lines xs;
       reads = λ w c rest nz room ready none.
           take {c = c} {s = shape (form_of (codes "finally")) false} Marks.finally_word tt _ _ finally_is
           (bind (block_reads xs false w (after c (shape (form_of (codes "finally")) false)) rest nz room ready) (λ ts d are done.
@@ -135,10 +131,9 @@ module _ {all : World} where
     flows_handler text = flows_last (catch_head text) (binding (text ∷ []) inside) (flows_last (Bind (text ∷ []) ∷ []) (inside ++ Release ∷ []) (flows_release inside (block_flows xs)))
 
     pub handler_part : (h : Catch) (at : Place) (text : List ℕ) → out-Catch h ≡ record { at = at; name = text; body = tree_lines xs } → is_identifier text ≡ true
-        → MaybePart all (handler_pieces text) (numbers_lines xs) (Some h) unplaced_catch Marks.catch_word (S.catch_part grammar)
+        → MaybePart all (max 1 (bound_lines xs)) (handler_pieces text) (numbers_lines xs) (Some h) unplaced_catch Marks.catch_word (S.catch_part grammar)
     handler_part h at text is identifier = record {
       ends = λ before f. flows_last before (handler_pieces text) (flows_handler text);
-      bound = bound_lines xs + 1;
       reads = λ w c rest nz room ready none.
           let k : Shape = shape (form_of (codes "catch")) false in
           let n : Shape = shape (name_form text) false in
@@ -200,8 +195,8 @@ try_same ts us (Some a) None y f are sameh samef = absurd (cc)
 try_same ts us x h None (Some d) are sameh samef = absurd (cc)
 try_same ts us x h (Some c) None are sameh samef = absurd (cc)
 
-module _ {all : World} (at : Place) (form : StmtForm) (xs : List (Line all)) (h : Option Catch) (f : Option Finally) {hp fp : List Piece} {nh nf : Numbers}
-    (ph : MaybePart all hp nh h unplaced_catch Marks.catch_word (S.catch_part grammar)) (pf : MaybePart all fp nf f unplaced_finally Marks.finally_word (S.finally_part grammar)) where
+module _ {all : World} (at : Place) (form : StmtForm) (low : LowStmt all (record { at = at; form = form })) (xs : List (Line all)) (h : Option Catch) (f : Option Finally) {bh bf : ℕ} {hp fp : List Piece} {nh nf : Numbers}
+    (ph : MaybePart all bh hp nh h unplaced_catch Marks.catch_word (S.catch_part grammar)) (pf : MaybePart all bf fp nf f unplaced_finally Marks.finally_word (S.finally_part grammar)) where
   abbrev body_pieces : List Piece
   body_pieces = block (λ s. s) (shown_lines xs)
 
@@ -216,7 +211,7 @@ module _ {all : World} (at : Place) (form : StmtForm) (xs : List (Line all)) (h 
       ∙ append_assoc (tokens_from line (word (codes "try") ++ body_pieces)) (tokens_from false hp) (tokens_from false fp ++ rest)
 
   try_reads : out-StmtForm form ≡ StmtForm-F.Try (tree_lines xs) h f → (is_some h || is_some f) ≡ true → ((rest : List Shape) → h ≡ None → first_of_shapes Marks.catch_word (tokens_from false fp ++ rest) ≡ None)
-      → Read all (bound_lines xs + ph.bound + pf.bound) (try_pieces body_pieces hp fp) ((numbers_lines xs ++ nh) ++ nf) (IsStmt (record { at = at; form = form })) (NoElse false) (S.statement grammar) give
+      → Read all (max (max (bound_lines xs) bh) bf) (try_pieces body_pieces hp fp) ((numbers_lines xs ++ nh) ++ nf) (IsStmt (record { at = at; form = form })) (NoElse false) (S.statement grammar) give
   unfolding S.try_behind
   try_reads is some no_catch = record {
     at = λ w c line rest nz room ready fits.
@@ -231,11 +226,11 @@ module _ {all : World} (at : Place) (form : StmtForm) (xs : List (Line all)) (h 
         bind (pf.reads w k rest nz (omega (arith, room)) readyk (λ e. no_last_word rest fits.no_finally)) (λ y l samef readyl.
         from (if_true (is_some x || is_some y) (finish_stmt p (s.Try ts x y)) unexpected (rest_of w l rest)
         (ap (λ b. b || is_some y) (same_some unplaced_catch x h sameh) ∙ ap (λ b. is_some h || b) (same_some unplaced_finally y f samef) ∙ some))
-        (finishes_stmt {c = l} p (s.Try ts x y) (same_stmts p at (s.Try ts x y) form _ _ (s.outs-Try ts x y) is (try_same ts (tree_lines xs) x h y f are sameh samef)) readyl))))));
+        (finishes_stmt {c = l} p (s.Try ts x y) low (same_stmts p at (s.Try ts x y) form _ _ (s.outs-Try ts x y) is (try_same ts (tree_lines xs) x h y f are sameh samef)) readyl))))));
   }
 
   pub try_part : out-StmtForm form ≡ StmtForm-F.Try (tree_lines xs) h f → (is_some h || is_some f) ≡ true → ((rest : List Shape) → h ≡ None → first_of_shapes Marks.catch_word (tokens_from false fp ++ rest) ≡ None)
-      → StmtPart all false (try_pieces body_pieces hp fp) ((numbers_lines xs ++ nh) ++ nf) (record { at = at; form = form })
+      → StmtPart all (max (max (bound_lines xs) bh) bf) false (try_pieces body_pieces hp fp) ((numbers_lines xs ++ nh) ++ nf) (record { at = at; form = form })
   try_part is some no_catch = record {
     flows = pf.ends ((word (codes "try") ++ body_pieces) ++ hp) (ph.ends (word (codes "try") ++ body_pieces) flows_body);
     first = record {
@@ -244,6 +239,5 @@ module _ {all : World} (at : Place) (form : StmtForm) (xs : List (Line all)) (h 
       is = λ line. sym (append-nil (tokens_from line (try_pieces body_pieces hp fp))) ∙ split_try line [];
       begins = try_first;
     };
-    bound = bound_lines xs + ph.bound + pf.bound;
     reads = try_reads is some no_catch;
   }

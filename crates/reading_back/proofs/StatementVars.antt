@@ -23,13 +23,14 @@ use Rattle.script_text.specs.Expressions.{name}
 use Rattle.script_text.specs.Pieces.{Piece, word, closing, separated, behind_commas}
 use Rattle.script_text.specs.Tokens.{Shape, shape, form_of, name_form, tokens_from}
 use Rattle.reading_back.proofs.Claims.{World, Frame, Spot, rest_of, Leads, Ready, below, Fit}
-use Rattle.reading_back.proofs.StatementClaims.{ends_list, StmtPart}
+use Rattle.reading_back.proofs.StatementClaims.{LowStmt, ends_list, StmtPart}
 use Rattle.reading_back.specs.Unplaced as unplaced
 use Rattle.reading_back.proofs.Flowing.{flows_last, flows_token, spread}
 use Rattle.reading_back.proofs.FunctionNames.{IsName, IsDeclared, name_lead}
 use Rattle.reading_back.proofs.LooseOperators.{assignment_reads, comma_is, comma_joins}
 use Rattle.reading_back.proofs.StatementHeads.{semicolon_joins}
 use Rattle.reading_back.proofs.StatementSteps.{same_stmts, semicolon, begins_with, token_first, finishes_stmt, ended}
+use Rattle.script_nesting.specs.Highest.{highest}
 use Rattle.reading_back.proofs.Steps.{after, first_of_shapes, from, on, become, stays, bind, take, miss}
 use Rattle.reading_back.proofs.TwoOperands.{ready_behind}
 
@@ -41,7 +42,8 @@ pub record Init (all : World) (allows_in : Bool) : Type 0 where
   pub pieces : List Piece
   pub numbers : Numbers
   pub tree : Expr
-  pub fit : Fit all 2 starts allows_in pieces numbers tree
+  pub bound : ℕ
+  pub fit : Fit all bound 2 starts allows_in pieces numbers tree
 
 pub record Decl (all : World) (allows_in : Bool) : Type 0 where
   pub tree : Declarator
@@ -65,7 +67,7 @@ one_more model so_far d x h is = record {
 module _ {all : World} {allows_in : Bool} where
   abbrev pub init_bound : Option (Init all allows_in) → ℕ
   init_bound None = 0
-  init_bound (Some i) = i.fit.part.bound
+  init_bound (Some i) = i.bound
 
   abbrev pub init_pieces : Option (Init all allows_in) → List Piece
   init_pieces None = []
@@ -79,8 +81,7 @@ module _ {all : World} {allows_in : Bool} where
   decl_pieces d = name d.tree.name ++ init_pieces d.init
 
   abbrev pub decls_bound : List (Decl all allows_in) → ℕ
-  decls_bound [] = 0
-  decls_bound (d ∷ ds) = init_bound d.init + decls_bound ds
+  decls_bound ds = highest (map (λ (d : Decl all allows_in). init_bound d.init) ds)
 
   abbrev pub decls_numbers : List (Decl all allows_in) → Numbers
   decls_numbers [] = []
@@ -229,17 +230,16 @@ var_first : ends_list (form_of (codes "var")) ≡ false
 unfolding form_of reserved_word
 var_first = refl
 
-module _ {all : World} (at : Place) (form : StmtForm) (d : Decl all true) (ds : List (Decl all true)) where
+module _ {all : World} (at : Place) (form : StmtForm) (low : LowStmt all (record { at = at; form = form })) (d : Decl all true) (ds : List (Decl all true)) where
   -- the declarators with their word
   abbrev pub var_pieces : List Piece
   var_pieces = word (codes "var") ++ separated decl_pieces (d ∷ ds)
 
-  pub var_part : out-StmtForm form ≡ StmtForm-F.Var (decls_trees (d ∷ ds)) → StmtPart all false (var_pieces ++ closing (codes ";")) (decls_numbers (d ∷ ds)) (record { at = at; form = form })
+  pub var_part : out-StmtForm form ≡ StmtForm-F.Var (decls_trees (d ∷ ds)) → StmtPart all (decls_bound (d ∷ ds)) false (var_pieces ++ closing (codes ";")) (decls_numbers (d ∷ ds)) (record { at = at; form = form })
   unfolding S.var_behind
   var_part is = record {
     flows = flows_last var_pieces (closing (codes ";")) (flows_token (codes ";") true _);
     first = token_first (codes "var") false _ _ var_first;
-    bound = decls_bound (d ∷ ds);
     reads = record {
       at = λ w c line rest nz room ready fits.
           let p = (c.supply 0).0 in
@@ -251,6 +251,6 @@ module _ {all : World} (at : Place) (form : StmtForm) (d : Decl all true) (ds : 
           bind (init_lead x d.init w f (behind_decl ds rest) (decls_numbers ds ++ nz) (omega (arith, room)) readyn (stops ds rest)) (λ v g isv readyv.
           bind (declarators_lead d ds v.0 (is_declarator d x v isn isv) w g rest nz (omega (arith, room)) readyv) (λ us h are done.
           ended {c = h} (S.continues_var grammar us) (λ _. finish_stmt p (s.Var us))
-          (finishes_stmt p (s.Var us) (same_stmts p at (s.Var us) form _ _ (s.outs-Var us) is (ap (λ v. StmtForm-F.Var v) are.same)) done))))));
+          (finishes_stmt p (s.Var us) low (same_stmts p at (s.Var us) form _ _ (s.outs-Var us) is (ap (λ v. StmtForm-F.Var v) are.same)) done))))));
     };
   }

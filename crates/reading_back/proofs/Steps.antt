@@ -10,7 +10,8 @@ use Rattle.js_tree.specs.declared.token.TokenForm.{TokenForm}
 use Rattle.js_grammar.specs.FunctionOrder.{Numbers}
 use Rattle.js_grammar.specs.Rest.{Rest, Reading, behind, ◌>>=◌, give, next, of_first, passed, part, enter, leave, finish, expect, unexpected}
 use Rattle.script_text.specs.Tokens.{Shape}
-use Rattle.reading_back.proofs.Claims.{World, Frame, Spot, rest_of, deeper, Leads, Ready}
+use Rattle.reading_back.proofs.Claims.{World, Frame, Spot, rest_of, deeper, Leads, Ready, IsExpr, Low}
+use Rattle.reading_back.proofs.Passing.{passes}
 
 -- the first token was taken
 abbrev pub after : Spot → Shape → Spot
@@ -91,24 +92,29 @@ module _ {all : World} {w : Frame all} where
 
   -- ---- finished parts
 
-  pub finished : {A B : Type 0} {nb : Numbers} {Is : B → Type 0} {c : Spot} {front rest : List Shape} (at : Place) (form : ExprForm) (f : Expr → Reading A) {k : B → Reading A}
-      → Leads w nb Is c front rest (f (record { at = at; form = form })) k → Leads w nb Is c front rest (finish at form >>= f) k
+  -- what was read passes the test of its height
+  allowed : {nb : Numbers} (c : Spot) {e : Expr} (zs : List Shape) (at : Place) (form : ExprForm) → Low all e → IsExpr e (record { at = at; form = form }) → Ready w c.functions nb
+      → finish at form (rest_of w c zs) ≡ Ok (record { at = at; form = form }, rest_of w c zs)
   unfolding finish
-  finished at form f h = from refl h
+  allowed {nb = nb} c {e = e} zs at form low is ready = rw (passes c.functions nb ready e (record { at = at; form = form }) is low) refl
 
-  pub finishes : {nb : Numbers} {Is : Expr → Type 0} {c : Spot} {rest : List Shape} (at : Place) (form : ExprForm) → Is (record { at = at; form = form }) → Ready w c.functions nb
-      → Leads w nb Is c rest rest (finish at form) give
-  unfolding finish
-  finishes at form is ready = from refl (stays (record { at = at; form = form }) give is ready)
+  pub finished : {A B : Type 0} {nb : Numbers} {Is : B → Type 0} {c : Spot} {e : Expr} {front rest : List Shape} {na : Numbers} (at : Place) (form : ExprForm) (f : Expr → Reading A) {k : B → Reading A}
+      → Low all e → IsExpr e (record { at = at; form = form }) → Ready w c.functions na
+      → Leads w nb Is c front rest (f (record { at = at; form = form })) k → Leads w nb Is c front rest (finish at form >>= f) k
+  finished {c = c} {e = e} {front = front} {na = na} at form f low is ready h = from (ap (λ r. behind r f) (allowed c {e = e} front at form low is ready)) h
+
+  pub finishes : {nb : Numbers} {c : Spot} {e : Expr} {rest : List Shape} (at : Place) (form : ExprForm) → Low all e → IsExpr e (record { at = at; form = form }) → Ready w c.functions nb
+      → Leads w nb (IsExpr e) c rest rest (finish at form) give
+  finishes {c = c} {e = e} {rest = rest} at form low is ready = from (allowed c {e = e} rest at form low is ready) (stays (record { at = at; form = form }) give is ready)
 
 -- ---- open parts
 
 module _ {all : World} {w : Frame all} where
   opened_more : (functions : List Func) (nb : Numbers) → Ready (deeper w) functions nb → Ready w functions nb
-  opened_more functions nb r = record { named = r.named; within = r.within; deep = r.deep; right = r.right }
+  opened_more functions nb r = record { named = r.named; within = r.within; deep = r.deep; right = r.right; stands = r.stands }
 
   pub opens : (functions : List Func) (nb : Numbers) → Ready w functions nb → Ready (deeper w) functions nb
-  opens functions nb r = record { named = r.named; within = r.within; deep = r.deep; right = r.right }
+  opens functions nb r = record { named = r.named; within = r.within; deep = r.deep; right = r.right; stands = r.stands }
 
   -- a part that is counted as open while it is read; it has a first token
   pub parted : {A : Type 0} {nb : Numbers} {Is : A → Type 0} {c : Spot} {s : Shape} {front more rest : List Shape} {m : Reading A} → w.opened < w.limit → front ≡ s ∷ more

@@ -1,1 +1,5 @@
 pub mod NestingCases
+pub mod Printed
+pub mod Equations
+pub mod Agree
+pub mod Stable

@@ -16,28 +16,28 @@ use Rattle.script_nesting.specs.Highest.{highest, or_zero}
 
 -- The function gives the height of the highest statement of a function by its number.
 module _ (body : FuncNo → ℕ) where
-  -- ---- expressions (11)
+  -- ---- expressions (11): the highest part of a form
 
   abbrev pub of_form : ExprForm-F ℕ ℕ ℕ → ℕ
-  of_form ExprForm-F.This = 1
-  of_form (ExprForm-F.Name text) = 1
-  of_form (ExprForm-F.Literal value) = 1
-  of_form (ExprForm-F.ArrayLit items) = suc (highest (map or_zero items))
-  of_form (ExprForm-F.ObjectLit fields) = suc (highest fields)
-  of_form (ExprForm-F.Func f) = suc (body f)
-  of_form (ExprForm-F.Member object key) = suc object
-  of_form (ExprForm-F.Index object key) = suc (max object key)
-  of_form (ExprForm-F.Call callee args) = suc (max callee (highest args))
-  of_form (ExprForm-F.New callee args) = suc (max callee (highest args))
-  of_form (ExprForm-F.Unary op a) = suc a
-  of_form (ExprForm-F.Binary op a b) = suc (max a b)
-  of_form (ExprForm-F.Logic op a b) = suc (max a b)
-  of_form (ExprForm-F.Conditional test a b) = suc (max (max test a) b)
-  of_form (ExprForm-F.Assign a op b) = suc (max a b)
-  of_form (ExprForm-F.Step op a) = suc a
-  of_form (ExprForm-F.Comma a b) = suc (max a b)
-  of_form (ExprForm-F.Input kind text) = 1
-  of_form (ExprForm-F.HostCall kind text args) = suc (highest args)
+  of_form ExprForm-F.This = 0
+  of_form (ExprForm-F.Name text) = 0
+  of_form (ExprForm-F.Literal value) = 0
+  of_form (ExprForm-F.ArrayLit items) = highest (map or_zero items)
+  of_form (ExprForm-F.ObjectLit fields) = highest fields
+  of_form (ExprForm-F.Func f) = body f
+  of_form (ExprForm-F.Member object key) = object
+  of_form (ExprForm-F.Index object key) = max object key
+  of_form (ExprForm-F.Call callee args) = max callee (highest args)
+  of_form (ExprForm-F.New callee args) = max callee (highest args)
+  of_form (ExprForm-F.Unary op a) = a
+  of_form (ExprForm-F.Binary op a b) = max a b
+  of_form (ExprForm-F.Logic op a b) = max a b
+  of_form (ExprForm-F.Conditional test a b) = max (max test a) b
+  of_form (ExprForm-F.Assign a op b) = max a b
+  of_form (ExprForm-F.Step op a) = a
+  of_form (ExprForm-F.Comma a b) = max a b
+  of_form (ExprForm-F.Input kind text) = 0
+  of_form (ExprForm-F.HostCall kind text args) = highest args
 
   abbrev pub of_field : Field-F ℕ ℕ ℕ → ℕ
   of_field (Field-F.Value at key x) = x
@@ -45,13 +45,13 @@ module _ (body : FuncNo → ℕ) where
   of_field (Field-F.Setter at key f) = body f
 
   abbrev pub height : Expr → ℕ
-  height = fold-Expr ℕ ℕ ℕ of_form of_field (λ e. e.form)
+  height = fold-Expr ℕ ℕ ℕ of_form of_field (λ e. suc e.form)
 
   abbrev pub of_maybe : Option Expr → ℕ
   of_maybe None = 0
   of_maybe (Some x) = height x
 
-  -- ---- statements (12)
+  -- ---- statements (12): the highest part of a form
 
   abbrev pub of_declarators : List Declarator → ℕ
   of_declarators ds = highest (map (λ (d : Declarator). of_maybe d.init) ds)
@@ -66,22 +66,22 @@ module _ (body : FuncNo → ℕ) where
   of_target (target.Var at name) = 0
 
   abbrev pub of_stmt_form : StmtForm-F ℕ ℕ ℕ ℕ ℕ → ℕ
-  of_stmt_form (StmtForm-F.Var ds) = suc (of_declarators ds)
-  of_stmt_form (StmtForm-F.FuncDecl f) = suc (body f)
-  of_stmt_form (StmtForm-F.Eval x) = suc (height x)
-  of_stmt_form (StmtForm-F.Block statements) = suc (highest statements)
-  of_stmt_form StmtForm-F.Empty = 1
-  of_stmt_form (StmtForm-F.If test a b) = suc (max (max (height test) a) (or_zero b))
-  of_stmt_form (StmtForm-F.DoWhile a test) = suc (max a (height test))
-  of_stmt_form (StmtForm-F.While test a) = suc (max (height test) a)
-  of_stmt_form (StmtForm-F.For from test step a) = suc (max (max (max (of_start from) (of_maybe test)) (of_maybe step)) a)
-  of_stmt_form (StmtForm-F.ForIn to object a) = suc (max (max (of_target to) (height object)) a)
-  of_stmt_form StmtForm-F.Continue = 1
-  of_stmt_form StmtForm-F.Break = 1
-  of_stmt_form (StmtForm-F.Return x) = suc (of_maybe x)
-  of_stmt_form (StmtForm-F.Switch x cases) = suc (max (height x) (highest cases))
-  of_stmt_form (StmtForm-F.Throw x) = suc (height x)
-  of_stmt_form (StmtForm-F.Try statements handler final) = suc (max (max (highest statements) (or_zero handler)) (or_zero final))
+  of_stmt_form (StmtForm-F.Var ds) = of_declarators ds
+  of_stmt_form (StmtForm-F.FuncDecl f) = body f
+  of_stmt_form (StmtForm-F.Eval x) = height x
+  of_stmt_form (StmtForm-F.Block statements) = highest statements
+  of_stmt_form StmtForm-F.Empty = 0
+  of_stmt_form (StmtForm-F.If test a b) = max (max (height test) a) (or_zero b)
+  of_stmt_form (StmtForm-F.DoWhile a test) = max a (height test)
+  of_stmt_form (StmtForm-F.While test a) = max (height test) a
+  of_stmt_form (StmtForm-F.For from test step a) = max (max (max (of_start from) (of_maybe test)) (of_maybe step)) a
+  of_stmt_form (StmtForm-F.ForIn to object a) = max (max (of_target to) (height object)) a
+  of_stmt_form StmtForm-F.Continue = 0
+  of_stmt_form StmtForm-F.Break = 0
+  of_stmt_form (StmtForm-F.Return x) = of_maybe x
+  of_stmt_form (StmtForm-F.Switch x cases) = max (height x) (highest cases)
+  of_stmt_form (StmtForm-F.Throw x) = height x
+  of_stmt_form (StmtForm-F.Try statements handler final) = max (max (highest statements) (or_zero handler)) (or_zero final)
 
   abbrev pub of_case : Case-F ℕ ℕ ℕ ℕ ℕ → ℕ
   of_case c = max (of_maybe c.test) (highest c.body)
@@ -93,7 +93,7 @@ module _ (body : FuncNo → ℕ) where
   of_finally f = highest f.body
 
   abbrev pub stmt_height : Stmt → ℕ
-  stmt_height = fold-Stmt ℕ ℕ ℕ ℕ ℕ of_stmt_form of_case of_catch of_finally (λ t. t.form)
+  stmt_height = fold-Stmt ℕ ℕ ℕ ℕ ℕ of_stmt_form of_case of_catch of_finally (λ t. suc t.form)
 
   abbrev pub body_height : List Stmt → ℕ
   body_height ts = highest (map stmt_height ts)

@@ -1,5 +1,5 @@
 -- Cases of nesting, worked out by hand: each tree stands beside its text and its nesting.
-use Rattle.std.specs.Prelude.{◌≡◌, ℕ, max, ◌+◌, ◌-◌, Bool, true, false, codes, List, [], ◌∷◌, map, Some, None, Ok, Err}
+use Rattle.std.specs.Prelude.{◌≡◌, ℕ, suc, max, ◌+◌, ◌-◌, Bool, true, false, codes, List, [], ◌∷◌, map, Some, None, Ok, Err}
 use Rattle.js_value.specs.declared.operator.BinaryOp.TheVariants as binary
 use Rattle.js_value.specs.declared.operator.UnaryOp.TheVariants as unary
 use Rattle.js_value.specs.declared.place.FuncNo.{FuncNo}
@@ -34,10 +34,10 @@ abbrev pub leaf : ExprForm-F Deep (List Piece × ℕ) Deep → Sized
 leaf l = record { deep = opened.of_form function inside l; high = 1 }
 
 abbrev pub with_one : (Deep → ExprForm-F Deep (List Piece × ℕ) Deep) → (ℕ → ExprForm-F ℕ ℕ ℕ) → Sized → Sized
-with_one f g a = record { deep = opened.of_form function inside (f a.deep); high = height.of_form body (g a.high) }
+with_one f g a = record { deep = opened.of_form function inside (f a.deep); high = suc (height.of_form body (g a.high)) }
 
 abbrev pub with_two : (Deep → Deep → ExprForm-F Deep (List Piece × ℕ) Deep) → (ℕ → ℕ → ExprForm-F ℕ ℕ ℕ) → Sized → Sized → Sized
-with_two f g a b = record { deep = opened.of_form function inside (f a.deep b.deep); high = height.of_form body (g a.high b.high) }
+with_two f g a b = record { deep = opened.of_form function inside (f a.deep b.deep); high = suc (height.of_form body (g a.high b.high)) }
 
 abbrev pub a : Sized
 a = leaf (ExprForm-F.Name (codes "a"))
@@ -46,7 +46,7 @@ abbrev pub text : Sized
 text = leaf (ExprForm-F.Literal (primitive.Text (codes "s")))
 
 abbrev pub func : Sized
-func = record { deep = opened.of_form function inside (ExprForm-F.Func (no 0)); high = height.of_form body (ExprForm-F.Func (no 0)) }
+func = record { deep = opened.of_form function inside (ExprForm-F.Func (no 0)); high = suc (height.of_form body (ExprForm-F.Func (no 0))) }
 
 abbrev pub not : Sized → Sized
 not = with_one (λ d. ExprForm-F.Unary unary.Not d) (λ n. ExprForm-F.Unary unary.Not n)
@@ -83,7 +83,7 @@ chosen = with_two (λ d e. ExprForm-F.Conditional d e e) (λ m n. ExprForm-F.Con
 
 -- of a script that is this expression statement alone, how many parts are open at once, and its nesting
 abbrev pub opened_by : Sized → ℕ
-opened_by x = opened.of_stmts function inside (opened.if_grouped x.deep.printed.starts true x.deep ∷ [])
+opened_by x = opened.of_stmts (opened.if_grouped x.deep.printed.starts true x.deep ∷ [])
 
 abbrev pub nesting_of : Sized → ℕ
 nesting_of x = max (opened_by x) (x.high + 1)

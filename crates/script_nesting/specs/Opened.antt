@@ -52,6 +52,15 @@ abbrev pub stepped : Bool → Bool → Deep → ℕ
 stepped true allows_in a = at 16 allows_in a
 stepped false allows_in a = suc (at 14 allows_in a)
 
+-- ---- statements inside others are open themselves
+
+abbrev pub of_stmts : List ℕ → ℕ
+of_stmts ns = highest (map suc ns)
+
+abbrev pub of_else : Option ℕ → ℕ
+of_else None = 0
+of_else (Some n) = suc n
+
 -- The functions give the tokens of a function by its number, and how many parts are open at once inside it.
 module _ (function : Bool → FuncNo → List Piece) (inside : FuncNo → ℕ) where
   -- ---- expressions (11)
@@ -99,7 +108,7 @@ module _ (function : Bool → FuncNo → List Piece) (inside : FuncNo → ℕ) w
   maybe_expr wanted allows_in None = 0
   maybe_expr wanted allows_in (Some x) = expr wanted allows_in x
 
-  -- ---- statements (12); those inside others are open themselves
+  -- ---- statements (12)
 
   abbrev pub declarators : Bool → List Declarator → ℕ
   declarators allows_in ds = highest (map (λ (d : Declarator). maybe_expr 2 allows_in d.init) ds)
@@ -112,13 +121,6 @@ module _ (function : Bool → FuncNo → List Piece) (inside : FuncNo → ℕ) w
   abbrev pub for_target : ForTarget → ℕ
   for_target (target.Expr x) = expr 16 false x
   for_target (target.Var at name) = 0
-
-  abbrev pub of_stmts : List ℕ → ℕ
-  of_stmts ns = highest (map suc ns)
-
-  abbrev pub of_else : Option ℕ → ℕ
-  of_else None = 0
-  of_else (Some n) = suc n
 
   abbrev pub of_stmt_form : StmtForm-F ℕ ℕ ℕ ℕ ℕ → ℕ
   of_stmt_form (StmtForm-F.Var ds) = declarators true ds
