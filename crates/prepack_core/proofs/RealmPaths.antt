@@ -1,7 +1,7 @@
 -- The names compute.
 use Rattle.std.proofs.Common.{refl}
 use Rattle.js_machine.specs.Machine.Realm.{realm_names}
-use Rattle.realm_paths.specs.Named.{PathsAreNames}
+use Rattle.prepack_core.specs.RealmPaths.{PathsAreNames}
 
 pub paths_are_names : PathsAreNames
 unfolding realm_names
