@@ -163,19 +163,109 @@ var labels = Object.keys(registry).map(function (k) {
 }).join(\" \");
 ";
 
-/// Cut off behind the `=` of its first statement or later, the module is no script, or one that isn't built.
+/// What becomes of the module where it is cut off: it is no script at its end, or at the quote of a string without an end, or it is
+/// read and not built.
+#[derive(Clone, Copy, Debug)]
+enum Cut {
+    End,
+    Quote(usize),
+    Read,
+}
+
+/// From which length on what becomes of it, worked out by hand. Shorter fronts are simple scripts or names.
+static CUTS: [(usize, Cut); 55] = [
+    (14, Cut::End),
+    (35, Cut::Quote(34)),
+    (43, Cut::End),
+    (46, Cut::Quote(45)),
+    (52, Cut::End),
+    (66, Cut::Read),
+    (71, Cut::End),
+    (73, Cut::Read),
+    (82, Cut::End),
+    (85, Cut::Read),
+    (95, Cut::End),
+    (161, Cut::Read),
+    (169, Cut::End),
+    (170, Cut::Read),
+    (179, Cut::End),
+    (180, Cut::Read),
+    (189, Cut::End),
+    (191, Cut::Read),
+    (198, Cut::End),
+    (226, Cut::Quote(225)),
+    (228, Cut::End),
+    (244, Cut::Read),
+    (247, Cut::End),
+    (365, Cut::Read),
+    (366, Cut::End),
+    (368, Cut::Quote(367)),
+    (372, Cut::End),
+    (375, Cut::Quote(374)),
+    (380, Cut::End),
+    (382, Cut::Read),
+    (387, Cut::End),
+    (389, Cut::Read),
+    (397, Cut::End),
+    (399, Cut::Read),
+    (407, Cut::End),
+    (408, Cut::Read),
+    (414, Cut::End),
+    (427, Cut::Quote(426)),
+    (434, Cut::End),
+    (437, Cut::Quote(436)),
+    (441, Cut::End),
+    (446, Cut::Read),
+    (451, Cut::End),
+    (453, Cut::Read),
+    (460, Cut::End),
+    (462, Cut::Read),
+    (468, Cut::End),
+    (469, Cut::Read),
+    (473, Cut::End),
+    (482, Cut::Read),
+    (483, Cut::End),
+    (484, Cut::Read),
+    (487, Cut::End),
+    (537, Cut::Read),
+    (538, Cut::End),
+];
+
+/// The same behind `.join`.
+static LAST_CUTS: [(usize, Cut); 5] = [
+    (539, Cut::Read),
+    (543, Cut::End),
+    (544, Cut::Quote(543)),
+    (546, Cut::End),
+    (547, Cut::Read),
+];
+
+/// What becomes of a front of this length.
+fn cut_at(len: usize) -> Cut {
+    let mut found = Cut::End;
+    for (from, cut) in CUTS.iter().chain(LAST_CUTS.iter()) {
+        if *from <= len {
+            found = *cut;
+        }
+    }
+    found
+}
+
 #[test]
 fn fronts_of_a_module(rt: HostRuntime) -> Result<(), Fail> {
     let alloc = rt.alloc();
+    assert_eq!(rt; MODULE.len(), 549);
     for len in 14..MODULE.len() + 1 {
-        let front = MODULE.get(..len).unwrap_or("");
-        let ran = eval(alloc, front, 4096, NO_FAULTS)?;
-        let again = eval(alloc, front, 4096, NO_FAULTS)?;
-        let refused = ran.status == Status::Syntax || ran.status == Status::Unsupported;
-        assert!(rt; refused, "at {len}");
-        assert_eq!(rt; ran.out.bytes(), b"".as_slice(), "at {len}");
-        assert_eq!(rt; again.status, ran.status, "at {len}");
-        assert_eq!(rt; again.diag.bytes(), ran.diag.bytes(), "at {len}");
+        let ran = eval(alloc, MODULE.get(..len).unwrap_or(""), 4096, NO_FAULTS)?;
+        let (status, line) = match cut_at(len) {
+            Cut::End => (Status::Syntax, format!(in alloc; "syntax at {len}\n")?),
+            Cut::Quote(at) => (Status::Syntax, format!(in alloc; "syntax at {at}\n")?),
+            Cut::Read => (
+                Status::Unsupported,
+                String::from_str(alloc, "unsupported at 0: not built\n")?,
+            ),
+        };
+        assert!(rt; is_refused(&ran, status, line.as_str()), "at {len}");
     }
     Ok(())
 }

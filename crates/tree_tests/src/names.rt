@@ -1,7 +1,7 @@
 //! Which names code declares, and which it only mentions.
 
 use crate::texts::{listed, read};
-use js_scope::{free_names, hoisted};
+use js_scope::{FreeNames, free_names, hoisted};
 use js_value::FuncNo;
 use std::test::Fail;
 
@@ -23,7 +23,7 @@ fn hoists_names(rt: HostRuntime) -> Result<(), Fail> {
     for (text, f, vars, functions) in &HOISTED {
         let found = hoisted(alloc, &read(alloc, text)?, f.map(FuncNo))?;
         assert_eq!(rt;
-            listed(alloc, &found.vars)?.as_str(),
+            listed(alloc, found.vars.as_slice())?.as_str(),
             *vars,
             "of {f:?} of {text}"
         );

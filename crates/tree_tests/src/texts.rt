@@ -3,7 +3,7 @@
 use js_lex::lex;
 use js_parse::parse;
 use js_tree::{ReadRefused, Script};
-use js_value::{Place, Seq, Text};
+use js_value::{Place, Text};
 use std::alloc::Global;
 use std::fmt::Write;
 use std::test::Fail;
@@ -36,9 +36,9 @@ pub fn refusal(alloc: Global, answer: Result<(), ReadRefused>) -> Result<String,
 }
 
 /// Names, each as a string literal, with a space between two.
-pub fn listed(alloc: Global, names: &Seq<Text>) -> Result<String, Fail> {
+pub fn listed(alloc: Global, names: &[Text]) -> Result<String, Fail> {
     let mut out = String::new(alloc);
-    for name in names.as_slice() {
+    for name in names {
         if !out.is_empty() {
             out.push_str(" ")?;
         }
