@@ -14,7 +14,7 @@ type Row = (&'static str, usize, &'static str);
 
 const NESTED: &str = "function f ( a ) { function g ( ) { } a } function h ( ) { }";
 
-static ALONE: [Row; 5] = [
+static ALONE: [Row; 4] = [
     (NESTED, 0, "(function (a) {\n  function g() {}\n  a;\n});\n"),
     (NESTED, 1, "(function () {});\n"),
     (NESTED, 2, "(function () {});\n"),
@@ -23,7 +23,6 @@ static ALONE: [Row; 5] = [
         1,
         "(function () {\n  ({get x() {\n    a;\n  }});\n});\n",
     ),
-    (NESTED, 3, "(function () {});\n"),
 ];
 
 #[test]

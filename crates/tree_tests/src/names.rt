@@ -51,12 +51,13 @@ static FREE: [Free; 3] = [
 fn lists_free_names(rt: HostRuntime) -> Result<(), Fail> {
     let alloc = rt.alloc();
     for (text, f, wanted) in &FREE {
-        let found = free_names(alloc, &read(alloc, text)?, FuncNo(*f))?;
-        assert_eq!(rt;
-            listed(alloc, &found)?.as_str(),
-            *wanted,
-            "of {f} of {text}"
-        );
+        let script = read(alloc, text)?;
+        let found = free_names(alloc, &script, FuncNo(*f))?;
+        let alone = listed(alloc, found.as_slice())?;
+        assert_eq!(rt; alone.as_str(), *wanted, "of {f} of {text}");
+        let all = FreeNames::new(alloc, &script)?;
+        let among = listed(alloc, all.of(FuncNo(*f)))?;
+        assert_eq!(rt; among.as_str(), *wanted, "of {f} of {text}");
     }
     Ok(())
 }
