@@ -1,6 +1,6 @@
 //! Operators on values that are no objects (11).
 
-ghost use Rattle.std.specs.Prelude.{◌≡◌, ◌≤◌, ◌+◌, ◌++◌, Some, IsSome, length, IfOk};
+ghost use Rattle.std.specs.Prelude.{◌≡◌, ◌≢◌, ◌≤◌, ◌+◌, ◌++◌, Some, IsSome, length, IfOk};
 ghost use Rattle.std.specs.Option.{option_map};
 ghost use Rattle.js_value.specs.Answers.{Answers};
 ghost use Rattle.js_value.specs.Operators as spec;
@@ -154,7 +154,8 @@ pub fn binary(
     a: &Primitive,
     b: &Primitive,
 ) -> Result<Primitive, Refused>
-    requires { IsSome (spec.binary_row op) }
+    requires looks_in_no_object { op ≢ BinaryOp.In }
+    requires asks_no_prototype { op ≢ BinaryOp.InstanceOf }
     ensures { (row : Primitive → Primitive → spec.Entry) → spec.binary_row op ≡ Some row → Answers (row a.now b.now) result }
 {
     match op {
@@ -199,7 +200,7 @@ fn type_of(a: &Primitive) -> &'static [u8]
 /// the table leaves the profile; memory is taken for the answer of `typeof` alone.
 #[tactic(auto, unfolding(crate::specs::Operators::unary_row))]
 pub fn unary(alloc: Global, op: UnaryOp, a: &Primitive) -> Result<Primitive, Refused>
-    requires { IsSome (spec.unary_row op) }
+    requires { op ≢ UnaryOp.Delete }
     ensures { (row : Primitive → spec.Entry) → spec.unary_row op ≡ Some row → Answers (row a.now) result }
 {
     match op {
