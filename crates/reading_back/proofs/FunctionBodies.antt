@@ -42,16 +42,22 @@ ElementsRead all function inside =
 
 -- ---- a list of elements
 
+-- the tokens of statements, each on a line of its own, and what stands behind them
+abbrev pub fronts : (Bool → FuncNo → List Piece) → Bool → List Stmt → List Shape → List Shape
+fronts function line [] rest = rest
+fronts function line (t ∷ ts) rest = tokens_from line (shown function t).pieces ++ fronts function true ts rest
+
 pub record Elements (all : World) (function : Bool → FuncNo → List Piece) (inside : FuncNo → ℕ) (ts : List Stmt) : Type 0 where
   pub xs : List (Element all)
   pub trees_are : trees xs ≡ ts
+  pub front_are : (line : Bool) (rest : List Shape) → front line xs rest ≡ fronts function line ts rest
   pub bounds_are : bounds xs ≡ depth.of_body function inside ts
   pub lines_are : lines_of xs ≡ lines (shown function) ts
   pub numbers_are : numbers_all xs ≡ in_body ts
 
 module _ {all : World} (function : Bool → FuncNo → List Piece) (inside : FuncNo → ℕ) (reads : ElementsRead all function inside) where
   pub elements_of : (ts : List Stmt) → readable.are_elements all.functions ts ≡ true → body_height all.tall ts ≤ all.high → Elements all function inside ts
-  elements_of [] r low = record { xs = []; trees_are = refl; bounds_are = refl; lines_are = refl; numbers_are = refl }
+  elements_of [] r low = record { xs = []; trees_are = refl; front_are = λ line rest. refl; bounds_are = refl; lines_are = refl; numbers_are = refl }
   elements_of (t ∷ ts) r low =
       let p = both _ _ r in
       let rest = elements_of ts p.1 (omega (arith, low)) in
@@ -59,6 +65,7 @@ module _ {all : World} (function : Bool → FuncNo → List Piece) (inside : Fun
       record {
         xs = first ∷ rest.xs;
         trees_are = ap (λ zs. t ∷ zs) rest.trees_are;
+        front_are = λ line more. ap (λ zs. tokens_from line (shown function t).pieces ++ zs) (rest.front_are true more);
         bounds_are = ap (λ n. max (suc (depth.of_stmt function inside t)) n) rest.bounds_are;
         lines_are = ap (λ ps. line (shown function t) ++ ps) rest.lines_are;
         numbers_are = ap (λ ns. in_stmt t ++ ns) rest.numbers_are;

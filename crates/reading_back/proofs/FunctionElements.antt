@@ -82,7 +82,7 @@ module _ {all : World} where
   front line [] rest = rest
   front line (x ∷ xs) rest = tokens_from line x.pieces ++ front true xs rest
 
-  no_else : (line : Bool) (xs : List (Element all)) (rest : List Shape) → is_else rest ≡ false → is_else (front line xs rest) ≡ false
+  pub no_else : (line : Bool) (xs : List (Element all)) (rest : List Shape) → is_else rest ≡ false → is_else (front line xs rest) ≡ false
   no_else line [] rest e = e
   no_else line (x ∷ xs) rest e =
       let f = x.part.first in
@@ -91,14 +91,14 @@ module _ {all : World} where
 -- ---- one element
 
 -- what is read behind an element that begins with this token, where directives alone stand before it or not
-abbrev after_element : Place → Bool → Bool → Bool → Stmt → Reading (Stmt × Bool)
+abbrev pub after_element : Place → Bool → Bool → Bool → Stmt → Reading (Stmt × Bool)
 after_element at strict leads is_string t = cond (strict && F.is_directive leads is_string t) (unsupported at feature.StrictCode) (give (t, F.is_directive leads is_string t))
 
 no_directive : (at : Place) (strict leads is_string : Bool) (t : Stmt) (s : Rest) → is_string ≡ false → after_element at strict leads is_string t s ≡ Ok ((t, F.is_directive leads is_string t), s)
 no_directive at strict leads is_string t s e = rw (not_strict strict (F.is_directive leads is_string t) (ap (λ b. F.is_directive leads b t) e ∙ no_string leads (F.is_string_statement t))) refl
 
 module _ {all : World} where
-  element_lead : (x : Element all) (leads : Bool) (w : Frame all) (c : Spot) (line : Bool) (more : List Shape) (na : Numbers)
+  pub element_lead : (x : Element all) (leads : Bool) (w : Frame all) (c : Spot) (line : Bool) (more : List Shape) (na : Numbers)
       → Ready w c.functions (x.numbers ++ na) → is_else more ≡ false → Leads (w.opened + suc x.bound) w na (λ p. IsStmt x.tree p.0) c (tokens_from line x.pieces ++ more) more (F.element_behind grammar leads) give
   element_lead x leads w c line more na ready plain =
       exactly (let f = x.part.first in

@@ -1,5 +1,7 @@
 pub mod Marks
 pub mod Tests
+pub mod TestsBack
+pub mod Passed
 pub mod Claims
 pub mod StatementClaims
 pub mod SameStatements
@@ -34,6 +36,8 @@ pub mod FunctionNumbers
 pub mod FunctionBodies
 pub mod FunctionDepths
 pub mod ScriptLimits
+pub mod HigherElements
+pub mod TooHigh
 pub mod Scripts
 pub mod StatementTries
 pub mod StatementVars

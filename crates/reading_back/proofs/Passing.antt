@@ -145,13 +145,13 @@ module _ (functions : List Func) where
         ap (H.parts_fit (is_within functions n) (inside n)) (unplaced_form x)
         ∙ parts_free (is_within functions n) (is_stmt_within functions n) (inside n) (free n) (stmt_free n) (out-ExprForm x.form)
 
-    stmt_free : (n : ℕ) (t : Stmt) → is_stmt_within functions n (unplaced.stmt t) ≡ is_stmt_within functions n t
+    pub stmt_free : (n : ℕ) (t : Stmt) → is_stmt_within functions n (unplaced.stmt t) ≡ is_stmt_within functions n t
     stmt_free zero t = refl
     stmt_free (suc n) t =
         ap (λ (u : Stmt). H.stmt_parts_fit (is_within functions n) (is_stmt_within functions n) (inside n) (out-StmtForm u.form)) (unplaced_is t.at t.form (out-StmtForm t.form) refl)
         ∙ rw out-roll-StmtForm (stmt_parts_free (is_within functions n) (is_stmt_within functions n) (inside n) (free n) (stmt_free n) (out-StmtForm t.form))
 
-  bodies_free : (n : ℕ) (ts : List Stmt) → list_all (is_stmt_within functions n) (map unplaced.stmt ts) ≡ list_all (is_stmt_within functions n) ts
+  pub bodies_free : (n : ℕ) (ts : List Stmt) → list_all (is_stmt_within functions n) (map unplaced.stmt ts) ≡ list_all (is_stmt_within functions n) ts
   bodies_free n ts = body (is_within functions n) (is_stmt_within functions n) (inside n) (free n) (stmt_free n) ts
 
 -- ---- functions that are read already, or aren't

@@ -1,4 +1,4 @@
--- With any limit a text is read as where all is allowed, or something is nested too deep.
+-- With a limit a text is read as where more is allowed, or something is nested too deep.
 use Rattle.std.proofs.Common.{◌≡◌, ◌≤◌, ℕ, Bool, true, false, List, refl, ap, sym, arith}
 use Rattle.std.specs.Prelude.{nat_lt, Result, Ok, Err}
 use Rattle.std.proofs.lemmas.Bool.Decides.{nat_tests}
@@ -21,13 +21,7 @@ pub record IsNested (e : ReadRefused) : Type 0 where
   pub at : Place
   pub is : e ≡ Nested at
 
-abbrev pub all_exprs : List Func → Expr → Bool
-all_exprs functions x = true
-
-abbrev pub all_stmts : List Func → Stmt → Bool
-all_stmts functions t = true
-
-tests_of : (at : Place) (b c : Bool) → (b ≡ true → c ≡ true) → Tests IsNested at b c
+pub tests_of : (at : Place) (b c : Bool) → (b ≡ true → c ≡ true) → Tests IsNested at b c
 tests_of at true c h = h refl
 tests_of at false true h = record { at = at; is = refl }
 tests_of at false false h = tt
@@ -35,7 +29,7 @@ tests_of at false false h = tt
 less_more : (k limit greater : ℕ) → limit ≤ greater → nat_lt k limit ≡ true → nat_lt k greater ≡ true
 less_more k limit greater le e = grind (arith, nat_tests)
 
--- the same answer as where all is allowed, or something is nested too deep
+-- the same answer as where more is allowed, or something is nested too deep
 pub data OrNested (r q : Result Script ReadRefused) : Type 0 where
   same : r ≡ q → OrNested r q
   nested : (at : Place) → r ≡ Err (Nested at) → OrNested r q
@@ -68,7 +62,3 @@ module _ (p more_p : List Func → Expr → Bool) (q more_q : List Func → Stmt
   read_as_more =
       answers (elements grammar at_end (beginning p q tokens limit)) (elements grammar at_end (beginning more_p more_q tokens greater))
       ((elements_too setting (ends_too setting) (grammar_too setting)).at 0 (beginning p q tokens limit) (omega arith) (record { left = refl; within = omega arith; limit = refl; exprs = refl; stmts = refl }))
-
-pub read_or_nested : (p : List Func → Expr → Bool) (q : List Func → Stmt → Bool) (tokens : Tokens) (limit greater : ℕ) → limit ≤ greater
-    → OrNested (read_by p q tokens limit) (read_by all_exprs all_stmts tokens greater)
-read_or_nested p q tokens limit greater le = read_as_more p all_exprs q all_stmts (λ functions x e. refl) (λ functions t e. refl) tokens limit greater le

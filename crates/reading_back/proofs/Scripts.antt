@@ -1,5 +1,5 @@
 -- Scripts (14).
-use Rattle.std.proofs.Common.{◌≡◌, ◌≢◌, ◌+◌, ◌≤◌, ◌<◌, ◌⊎◌, inl, inr, ℕ, zero, suc, max, Bool, true, false, List, [], ◌∷◌, ◌++◌, length, drop, map, refl, ap, sym, ◌∙◌, subst, arith, append-nil}
+use Rattle.std.proofs.Common.{◌≡◌, ◌≢◌, ◌+◌, ◌≤◌, ◌<◌, ℕ, zero, suc, Bool, true, false, List, [], ◌∷◌, ◌++◌, length, drop, map, refl, ap, sym, ◌∙◌, subst, arith, append-nil}
 use Rattle.std.specs.Prelude.{◌==◌, Some, None, Result, Ok, Err}
 use Rattle.std.specs.List.{list_all, list_any}
 use Rattle.std.proofs.lemmas.List.{length-drop}
@@ -28,18 +28,23 @@ use Rattle.script_text.specs.Tokens.{shape_of, tokens_from}
 use Rattle.reading_back.proofs.Claims.{unread, World, Frame, Spot, Supply, placed, rest_of, Leads, Ready, SameAt, FunctionsRead}
 use Rattle.reading_back.specs.ReadsBack.{ReadsTo, ReadsBack}
 use Rattle.reading_back.specs.Unplaced as unplaced
-use Rattle.reading_back.proofs.FunctionBodies.{ElementsRead, Elements, elements_of}
+use Rattle.reading_back.proofs.FunctionBodies.{ElementsRead, Elements, elements_of, fronts}
 use Rattle.reading_back.proofs.FunctionDepths.{Tops, world, functions_read}
 use Rattle.reading_back.proofs.FunctionElements.{Closes, bounds, numbers_all, front, elements_lead, lines_of, lines_front}
 use Rattle.reading_back.proofs.Readability.{both, not_true}
-use Rattle.reading_back.proofs.ScriptLimits.{OrNested, same, nested, all_exprs, all_stmts, read_or_nested, read_as_more}
+use Rattle.reading_back.proofs.ScriptLimits.{OrNested, same, nested, read_as_more}
 use Rattle.js_grammar.proofs.MoreHeights.{more_within, more_stmt_within}
 use Rattle.reading_back.proofs.StatementLists.{AreStmts}
 use Rattle.reading_back.proofs.Steps.{become}
 use Rattle.script_nesting.specs.Height.{function_height}
 use Rattle.script_nesting.specs.Nesting.{nesting, opened, script_height}
 use Rattle.script_nesting.specs.Opened.{in_function}
-use Rattle.script_nesting.proofs.Stable.{stands}
+use Rattle.script_nesting.proofs.Opening.{nesting_is}
+use Rattle.script_nesting.proofs.Stable.{stands, exactly_so}
+use Rattle.reading_back.proofs.TooHigh.{at_height, fails}
+use Rattle.std.proofs.lemmas.Bool.Decides.{nat_tests}
+use Rattle.std.specs.Prelude.{nat_lt}
+use Rattle.script_nesting.specs.Opened as depth
 use Rattle.js_tree.specs.declared.expression.Expr.{Expr}
 
 -- ---- tokens with their places
@@ -200,19 +205,6 @@ module _ (statements : (all : World) (function : Bool → FuncNo → List Piece)
     with_more : (limit : ℕ) → least ≤ limit → read tokens limit ≡ Ok tree
     with_more limit le = limits_nesting tokens least limit le (not_nested (read tokens least) read_so) ∙ read_so
 
-    -- where trees of any height are allowed
-    without_heights : (r : Result Script ReadRefused) → OrNested (read tokens least) r → r ≡ Ok tree
-    without_heights r (same e) = sym e ∙ read_so
-    without_heights r (nested at e) = let never : Ok tree ≡ Err (Nested at) = sym read_so ∙ e in absurd (cc)
-
-    all_allowed : (limit : ℕ) → least ≤ limit → read_by all_exprs all_stmts tokens limit ≡ Ok tree
-    unfolding read
-    all_allowed limit le = without_heights (read_by all_exprs all_stmts tokens limit) (read_or_nested low_expr low_stmt tokens least limit le)
-
-    either : (limit : ℕ) (r : Result Script ReadRefused) → OrNested r (read_by all_exprs all_stmts tokens (max limit least)) → (r ≡ Ok tree) ⊎ ((at : Place) × (r ≡ Err (Nested at)))
-    either limit r (same e) = inl (e ∙ all_allowed (max limit least) (omega arith))
-    either limit r (nested at e) = inr (at, e)
-
     -- with a limit that is less than how many parts are open at once
     stopped : (limit : ℕ) → limit < opened s → (at : Place) × (read_by low_expr low_stmt tokens limit ≡ Err (Nested at))
     unfolding read_by
@@ -232,16 +224,59 @@ module _ (statements : (all : World) (function : Bool → FuncNo → List Piece)
         with_less limit less (read tokens limit) (read_as_more (λ functions x. is_within functions limit x) low_expr (λ functions t. is_stmt_within functions limit t) low_stmt
         (λ functions x e. more_within functions limit least x le e) (λ functions t e. more_stmt_within functions limit least t le e) tokens limit limit (omega arith))
 
-    pub reads_to : ReadsTo tokens s
+    -- where trees that are as high aren't allowed
+    abbrev lower : ℕ → World
+    lower limit = at_height s.funcs tops.tall tops.stands (exactly_so (in_body s.body) s.funcs named) limit
+
+    reads_low : (limit : ℕ) → ElementsRead (lower limit) function inside
+    reads_low limit =
+        statements (lower limit) function inside
+        (functions_read s.funcs the_parts.functions statements (record { high = limit; tall = tops.tall; stands = tops.stands }) (length s.funcs) 0 (omega arith))
+
+    abbrev lower_frame : (limit : ℕ) → Frame (lower limit)
+    lower_frame limit = record { end = tokens.end; limit = least; opened = 0; begun = [] }
+
+    ready_low : (limit : ℕ) → Ready (lower_frame limit) spot.functions (in_body s.body)
+    unfolding spot
+    ready_low limit = record { named = named; within = omega arith; deep = omega arith; right = λ i less absent. absurd (omega (arith, less)); stands = λ k. unread refl }
+
+    too_high : (limit : ℕ) → limit ≤ least → limit < script_height s
+        → (at : Place) × (read_by (λ fs x. is_within fs limit x) (λ fs t. is_stmt_within fs limit t) tokens least ≡ Err (Nested at))
+    unfolding read_by spot F.elements
+    too_high limit le less =
+        let room : 0 + depth.of_body function inside s.body ≤ least = omega (arith, opened_less s) in
+        let n = fails s.funcs tops.tall tops.stands (exactly_so (in_body s.body) s.funcs named) least limit le function inside reads (reads_low limit) s.body the_parts.body [] true false (lower_frame limit) spot [] (height_less s) less refl room named
+        (ready_low limit) in
+        let starts : beginning (λ fs x. is_within fs limit x) (λ fs t. is_stmt_within fs limit t) tokens least ≡ rest_of (lower_frame limit) spot (fronts function false s.body []) =
+        ap (λ (zs : List Token). beginning (λ fs x. is_within fs limit x) (λ fs t. is_stmt_within fs limit t) (record { items = zs; end = tokens.end }) least) (placed_so tokens.items)
+        ∙ ap (λ zs. rest_of (lower_frame limit) spot zs) (are ∙ pieces_are ∙ the.front_are false []) in
+        (n.at, ap (λ r. script_of (F.elements grammar at_end r)) starts ∙ ap script_of n.is)
+
+    with_lower : (limit : ℕ) → limit ≤ least → limit < script_height s → (r : Result Script ReadRefused) → OrNested r (read_by (λ fs x. is_within fs limit x) (λ fs t. is_stmt_within fs limit t) tokens least) → (at : Place) × (r ≡ Err (Nested at))
+    with_lower limit le less r (same e) = let n = too_high limit le less in (n.0, e ∙ n.1)
+    with_lower limit le less r (nested at e) = (at, e)
+
+    too_low : (limit : ℕ) → limit ≤ least → limit < script_height s → (at : Place) × (read tokens limit ≡ Err (Nested at))
     unfolding read
-    reads_to = record {
-      tree = tree;
-      same = same_tree;
-      reads = with_more;
-      nested = too_few;
-      or_nested = λ limit. either limit (read tokens limit)
-          (read_or_nested (λ functions x. is_within functions limit x) (λ functions t. is_stmt_within functions limit t) tokens limit (max limit least) (omega arith));
-    }
+    too_low limit le less =
+        with_lower limit le less (read tokens limit)
+        (read_as_more (λ fs x. is_within fs limit x) (λ fs x. is_within fs limit x) (λ fs t. is_stmt_within fs limit t) (λ fs t. is_stmt_within fs limit t) (λ fs x e. e) (λ fs t e. e) tokens limit least le)
+
+    not_enough : (limit : ℕ) → limit < nesting s → (at : Place) × (read tokens limit ≡ Err (Nested at))
+    not_enough limit less = by (nat_lt limit (opened s)) refl
+      where
+        few : nat_lt limit (opened s) ≡ true → limit < opened s
+        few e = grind (arith, nat_tests)
+
+        many : nat_lt limit (opened s) ≡ false → opened s ≤ limit
+        many e = grind (arith, nat_tests)
+
+        by : (b : Bool) → nat_lt limit (opened s) ≡ b → (at : Place) × (read tokens limit ≡ Err (Nested at))
+        by true e = too_few limit (few e)
+        by false e = too_low limit (omega (arith, less)) (omega (arith, less, many e, nesting_is s))
+
+    pub reads_to : ReadsTo tokens s
+    reads_to = record { tree = tree; same = same_tree; reads = with_more; nested = not_enough }
 
 -- what a readable script is printed to reads back
 pub scripts_read_back : ((all : World) (function : Bool → FuncNo → List Piece) (inside : FuncNo → ℕ) → FunctionsRead all function inside → ElementsRead all function inside) → ReadsBack

@@ -209,3 +209,14 @@ module _ {all : World} {w : Frame all} where
       by : w.opened ≤ w.limit → w.limit < max (suc w.opened) n → Reaches (suc w.opened) w.limit → IsNested (part m (rest_of w c front))
       by fits less (too_few few) = nested_behind _ _ (record { at = (c.supply 0).0; is = stopped (omega (arith, few)) })
       by fits less (yes_so le) = nested_as (ap (λ r. behind r (λ opened. m >>= λ x. leave opened >>= λ _. give x)) (enters (omega (arith, le)))) (nested_behind _ _ (h.nested (omega (arith, le)) (omega (arith, less, le))))
+
+-- a part that is nested too deep inside
+pub part_nested : {all : World} (w : Frame all) {A : Type 0} (c : Spot) (s : Shape) (more front : List Shape) (m : Reading A) → w.opened < w.limit → front ≡ s ∷ more → IsNested (m (rest_of (deeper w) c front)) → IsNested (part m (rest_of w c front))
+unfolding part enter leave
+part_nested w c s more front m room e h = nested_as (ap (λ r. behind r (λ opened. m >>= λ x. leave opened >>= λ _. give x)) enters) (nested_behind _ _ h)
+  where
+    tests : w.opened < w.limit → nat_lt w.opened w.limit ≡ true
+    tests r = grind (arith, nat_tests)
+
+    enters : enter (rest_of w c front) ≡ Ok (w.opened, rest_of (deeper w) c front)
+    enters = ap (λ zs. enter (rest_of w c zs)) e ∙ rw (tests room) refl ∙ ap (λ zs. Ok (w.opened, rest_of (deeper w) c zs)) (sym e)

@@ -4,3 +4,4 @@ pub mod Equations
 pub mod Agree
 pub mod Stable
 pub mod Opening
+pub mod Consumed
