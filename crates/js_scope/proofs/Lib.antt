@@ -6,5 +6,6 @@ pub mod Walks
 pub mod Insides
 pub mod Typed
 pub mod Related
+pub mod Standing
 pub mod Firsts
 pub mod Whole
