@@ -9,3 +9,4 @@ pub mod Related
 pub mod Standing
 pub mod Firsts
 pub mod Whole
+pub mod WithoutReads

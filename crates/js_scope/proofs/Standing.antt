@@ -78,8 +78,8 @@ module _ (Like : Ms → Ms → Type 0) (same : (a : Ms) → Like a a) (joins : (
         let known_stand : AllZip Stands inner known = subst (λ m. AllZip Stands (M.insides_from m (drop m all)) known) one_behind before in
         let made_so : found ≡ inside (n + 1) (drop (n + 1) all) known f = made ∙ ap (λ fs. inside (n + 1) fs known f) parts in
         let one : Stands (inside (n + 1) (drop (n + 1) all) inner f) less =
-            follows (inside (n + 1) (drop (n + 1) all) inner f) (inside (n + 1) (drop (n + 1) all) known f) less
-            (inside_like (n + 1) (drop (n + 1) all) inner known f known_stand) (subst (λ i. Stands i less) made_so stand) in
+        follows (inside (n + 1) (drop (n + 1) all) inner f) (inside (n + 1) (drop (n + 1) all) known f) less
+        (inside_like (n + 1) (drop (n + 1) all) inner known f known_stand) (subst (λ i. Stands i less) made_so stand) in
         subst (λ m. AllZip Stands (M.insides_from m (drop m all)) new) here
         (subst (λ is. AllZip Stands is new) (sym (inside_at all n f (omega arith) is))
         (subst (λ js. AllZip Stands (inside (n + 1) (drop (n + 1) all) inner f ∷ inner) js) (sym put) (one, known_stand)))

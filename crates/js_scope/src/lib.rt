@@ -14,6 +14,7 @@ mod properties;
 mod statements;
 #[cfg(test)]
 mod tests;
+mod unread;
 mod walk;
 
 pub use early::check;
