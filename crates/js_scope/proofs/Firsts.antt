@@ -1,23 +1,21 @@
 -- Functions that mention each name once have the same free names around them.
-use Rattle.std.proofs.Common.{◌≡◌, ◌<◌, ◌+◌, ◌-◌, ℕ, zero, suc, Bool, true, false, List, [], ◌∷◌, ◌++◌, map, length, drop, get_or, refl, ap, sym, ◌∙◌, subst, arith}
+use Rattle.std.proofs.Common.{◌≡◌, ◌<◌, ◌+◌, ◌-◌, ℕ, zero, suc, Bool, true, false, List, [], ◌∷◌, ◌++◌, length, drop, get_or, refl, ap, sym, ◌∙◌, arith}
 use Rattle.std.specs.Prelude.{◌||◌, if◌then◌else◌, nat_lt, slice_get, None}
-use Rattle.std.specs.List.{flat_map}
+use Rattle.std.specs.List.{AllZip, flat_map}
 use Rattle.std.specs.Str.{bytes_eq}
 use Rattle.std.proofs.lemmas.Bool.{le-ltb}
 use Rattle.std.proofs.lemmas.Grind.{flat_map-append}
-use Rattle.std.proofs.lemmas.List.Folds.{flat_map-map, list_any-append}
+use Rattle.std.proofs.lemmas.List.Folds.{list_any-append}
 use Rattle.js_value.specs.declared.place.FuncNo.{FuncNo}
 use Rattle.js_tree.specs.declared.statement.Func.{Func}
 use Rattle.js_tree.specs.declared.statement.Script.{Script}
 use Rattle.js_tree.specs.Mentions as M
 use Rattle.js_tree.specs.Mentions.{Mention, Inside, Names, distinct_behind, mentioned_name, unbound, unbound_one, owned_one, none_inside, of_none, free_names}
 use Rattle.js_tree.specs.Parts.{is_among}
-use Rattle.js_scope.specs.FreeNames.{AreFirst, IsFirst, free_in, names_in, of, table_of}
-use Rattle.js_scope.specs.Functions.{declared, inside}
-use Rattle.js_scope.specs.Mentioning.{as_expression, as_declaration}
+use Rattle.js_scope.specs.FreeNames.{IsFirst, free_in, names_in, of, table_of}
+use Rattle.js_scope.specs.Functions.{inside}
 use Rattle.js_scope.proofs.Gathered.{same_name}
-use Rattle.js_scope.proofs.Insides.{inside_at}
-use Rattle.js_scope.proofs.Related.{body_relates}
+use Rattle.js_scope.proofs.Standing.{one_stands}
 
 abbrev Ms : Type 0
 Ms = List Mention
@@ -128,15 +126,8 @@ owned_names own (m ∷ ms) =
     ∙ ap (λ ns. names_in (unbound_one own m) ++ ns) (owned_names own ms)
     ∙ sym (names_joined (unbound_one own m) (unbound own ms))
 
-abbrev AreLike : Inside → Inside → Type 0
-AreLike i j = (i.0 ≡ j.0) × SameNames i.1 j.1
-
-expressions : (i j : Inside) → AreLike i j → SameNames (M.as_expression i) (M.as_expression j)
-expressions i j h = λ seen.
-    ap (distinct_behind seen) (owned_names i.0 i.1)
-    ∙ binds i.0 i.1 j.1 h.1 seen
-    ∙ ap (λ own. distinct_behind seen (names_in (unbound own j.1))) h.0
-    ∙ sym (ap (distinct_behind seen) (owned_names j.0 j.1))
+owns : (own : Names) (a b : Ms) → SameNames a b → SameNames (flat_map (owned_one own) a) (flat_map (owned_one own) b)
+owns own a b h = λ seen. ap (distinct_behind seen) (owned_names own a) ∙ binds own a b h seen ∙ sym (ap (distinct_behind seen) (owned_names own b))
 
 -- ---- names once and again once
 
@@ -172,70 +163,36 @@ again (x ∷ xs) seen t h =
     by false true e k old one new = rw k (one k)
     by false false e k old one new = rw k (ap (λ ns. x ∷ ns) new)
 
+abbrev AreLike : Inside → Inside → Type 0
+AreLike i j = (i.0 ≡ j.0) × SameNames i.1 j.1
+
 first_like : (i j : Inside) → IsFirst i j → AreLike i j
 first_like i j h = (sym h.0, λ seen. sym (again (names_in i.1) seen [] (λ q e. absurd (cc))) ∙ ap (distinct_behind seen) (sym h.1))
 
--- ---- functions by their numbers
-
-at_number : (is js : List Inside) → AreFirst is js → (k : ℕ) → AreLike (none_inside (slice_get is k)) (none_inside (slice_get js k))
-at_number [] [] h k = (refl, λ seen. refl)
-at_number [] (j ∷ js) h k = absurd h
-at_number (i ∷ is) [] h k = absurd h
-at_number (i ∷ is) (j ∷ js) h zero = first_like i j h.0
-at_number (i ∷ is) (j ∷ js) h (suc k) = at_number is js h.1 k
-
-for_number : (is js : List Inside) → AreFirst is js → (n : ℕ) (f : FuncNo) → AreLike (M.nth n is f) (M.nth n js f)
-for_number is js h n f = by (nat_lt f.0 n)
-  where
-    by : (b : Bool) → AreLike (none_inside (if b then None else slice_get is (f.0 - n))) (none_inside (if b then None else slice_get js (f.0 - n)))
-    by true = (refl, λ seen. refl)
-    by false = at_number is js h (f.0 - n)
-
-pub inside_like : (n : ℕ) (fs : List Func) (is js : List Inside) (f : Func) → AreFirst is js → AreLike (inside n fs is f) (inside n fs js f)
-unfolding as_expression as_declaration
-inside_like n fs is js f h = (
-  refl,
-  binds (declared n fs f) (M.joined (map (M.stmt_mentions (as_expression n is) (as_declaration n is)) f.body)) (M.joined (map (M.stmt_mentions (as_expression n js) (as_declaration n js)) f.body))
-      (λ seen.
-      ap (λ ms. distinct_behind seen (names_in ms)) (flat_map-map (λ (x : Ms). x) (M.stmt_mentions (as_expression n is) (as_declaration n is)) f.body)
-      ∙ body_relates SameNames (λ a seen. refl) joins binds (as_expression n is) (as_declaration n is) (as_expression n js) (as_declaration n js)
-      (λ g. expressions (M.nth n is g) (M.nth n js g) (for_number is js h n g)) (λ g. (for_number is js h n g).1) f.body seen
-      ∙ sym (ap (λ ms. distinct_behind seen (names_in ms)) (flat_map-map (λ (x : Ms). x) (M.stmt_mentions (as_expression n js) (as_declaration n js)) f.body))),
-)
+first_follows : (i j k : Inside) → AreLike i j → IsFirst j k → IsFirst i k
+first_follows i j k h first = (first.0 ∙ sym h.0, first.1 ∙ sym (h.1 []))
 
 -- as a loop over the functions from the last one on comes to them
 pub one_first : (all behind : List Func) (done : ℕ) (f : Func) (known new : List Inside) (found first : Inside)
     → done < length all → f ≡ get_or all (length all - 1 - done) f
-    → AreFirst (M.insides_from (length all - done) (drop (length all - done) all)) known
+    → AllZip IsFirst (M.insides_from (length all - done) (drop (length all - done) all)) known
     → behind ≡ drop (length all - 1 - done + 1) all
     → found ≡ inside (length all - 1 - done + 1) behind known f
     → IsFirst found first
     → new ≡ first ∷ known
-    → AreFirst (M.insides_from (length all - (done + 1)) (drop (length all - (done + 1)) all)) new
-one_first all behind done f known new found first h is before parts made is_first put =
-    let n : ℕ = length all - 1 - done in
-    let one_behind : length all - done ≡ n + 1 = omega arith in
-    let here : n ≡ length all - (done + 1) = omega arith in
-    let inner : List Inside = M.insides_from (n + 1) (drop (n + 1) all) in
-    let known_first : AreFirst inner known = subst (λ m. AreFirst (M.insides_from m (drop m all)) known) one_behind before in
-    let like = inside_like (n + 1) (drop (n + 1) all) inner known f known_first in
-    let same : found ≡ inside (n + 1) (drop (n + 1) all) known f = made ∙ ap (λ fs. inside (n + 1) fs known f) parts in
-    let one : IsFirst (inside (n + 1) (drop (n + 1) all) inner f) first =
-    (is_first.0 ∙ ap (λ (i : Inside). i.0) same, is_first.1 ∙ ap free_in same ∙ sym (like.1 [])) in
-    subst (λ m. AreFirst (M.insides_from m (drop m all)) new) here
-    (subst (λ is. AreFirst is new) (sym (inside_at all n f (omega arith) is))
-    (subst (λ js. AreFirst (inside (n + 1) (drop (n + 1) all) inner f ∷ inner) js) (sym put) (one, known_first)))
+    → AllZip IsFirst (M.insides_from (length all - (done + 1)) (drop (length all - (done + 1)) all)) new
+one_first = one_stands SameNames (λ a seen. refl) joins binds owns IsFirst first_like first_follows
 
 -- ---- the table
 
-listed : (is js : List Inside) → AreFirst is js → (k : ℕ) → of_none (slice_get (table_of js) k) ≡ free_in (none_inside (slice_get is k))
+listed : (is js : List Inside) → AllZip IsFirst is js → (k : ℕ) → of_none (slice_get (table_of js) k) ≡ free_in (none_inside (slice_get is k))
 listed [] [] h k = refl
 listed [] (j ∷ js) h k = absurd h
 listed (i ∷ is) [] h k = absurd h
 listed (i ∷ is) (j ∷ js) h zero = h.0.1
 listed (i ∷ is) (j ∷ js) h (suc k) = listed is js h.1 k
 
-pub tabled : (s : Script) (js : List Inside) → AreFirst (M.insides s) js → (f : FuncNo) → of (table_of js) f ≡ free_names s f
+pub tabled : (s : Script) (js : List Inside) → AllZip IsFirst (M.insides s) js → (f : FuncNo) → of (table_of js) f ≡ free_names s f
 unfolding free_names
 tabled s js h f =
     let not_less : nat_lt f.0 0 ≡ false = le-ltb f.0 0 (omega arith) in

@@ -23,26 +23,3 @@ pub inside_at : (all : List Func) (n : ℕ) (f : Func) → n < length all → f 
 inside_at all n f h is =
     ap (λ fs. M.insides_from n fs) (drop-cons all n f h ∙ ap (λ g. g ∷ drop (suc n) all) (sym is) ∙ ap (λ m. f ∷ drop m all) (after n))
     ∙ first_inside n f (drop (n + 1) all)
-
-at_number : List Func → ℕ → List Inside
-at_number all m = M.insides_from m (drop m all)
-
--- as a loop over the functions from the last one on comes to them
-pub one_more : (all behind : List Func) (done : ℕ) (f : Func) (known new : List Inside) (i : Inside)
-    → done < length all → f ≡ get_or all (length all - 1 - done) f
-    → known ≡ M.insides_from (length all - done) (drop (length all - done) all)
-    → behind ≡ drop (length all - 1 - done + 1) all
-    → i ≡ inside (length all - 1 - done + 1) behind known f
-    → new ≡ i ∷ known
-    → new ≡ M.insides_from (length all - (done + 1)) (drop (length all - (done + 1)) all)
-unfolding at_number
-one_more all behind done f known new i h is before parts found put =
-    let n : ℕ = length all - 1 - done in
-    let one_behind : length all - done ≡ n + 1 = omega arith in
-    let here : n ≡ length all - (done + 1) = omega arith in
-    put
-    ∙ ap (λ j. j ∷ known) found
-    ∙ ap (λ fs. inside (n + 1) fs known f ∷ known) parts
-    ∙ ap (λ k. inside (n + 1) (drop (n + 1) all) k f ∷ k) (before ∙ ap (at_number all) one_behind)
-    ∙ sym (inside_at all n f (omega arith) is)
-    ∙ ap (at_number all) here

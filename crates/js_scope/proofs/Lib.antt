@@ -6,5 +6,7 @@ pub mod Walks
 pub mod Insides
 pub mod Typed
 pub mod Related
+pub mod Standing
 pub mod Firsts
 pub mod Whole
+pub mod WithoutReads

@@ -77,69 +77,11 @@ put old new name at h is = λ p q. ap (λ o. is_before o p.0) (is q ∙ ap (λ b
     by p q true e = put_at (first_of old q) at.0 p.0 (ap (λ o. is_upto o at.0) (sym (same_place old q name e)) ∙ h)
     by p q false e = with_none (stands_before old q p) (nat_lt at.0 p.0)
 
-pub ruleset stands = (kept, put)
-
--- ---- one input more
-
-left : (a b c d : Bool) → ((a || (c && d)) || b) ≡ ((a || b) || ((c && d) && true))
-left true b c d = refl
-left false true true true = refl
-left false true true false = refl
-left false true false d = refl
-left false false true true = refl
-left false false true false = refl
-left false false false d = refl
-
-right : (a b c d : Bool) → (a || (b || (c && d))) ≡ ((a || b) || ((c && d) && true))
-right true b c d = refl
-right false true c d = refl
-right false false true true = refl
-right false false true false = refl
-right false false false d = refl
-
-neither : (a c d : Bool) → a ≡ (a || ((c && d) && false))
-neither true c d = refl
-neither false true true = refl
-neither false true false = refl
-neither false false d = refl
-
-abbrev Notices : Inputs → Mention → Inputs → Type 0
-Notices old m new = (p : Place) (k : Kind) (q : List ℕ) → is_retyped new p k q ≡ (is_retyped old p k q || differs p k q m)
-
-pub with_number : (i : Inputs) (fs : FirstPlaces) (at : Place) (name : List ℕ) → Notes i.numbers name at fs → Notices i (Takes at kind.Number name) (record i { numbers = fs })
-with_number i fs at name h = by
-  where
-    by : (p : Place) (k : Kind) (q : List ℕ) → is_retyped (record i { numbers = fs }) p k q ≡ (is_retyped i p k q || differs p k q (Takes at kind.Number name))
-    by p kind.Number q = neither (stands_before i.booleans q p || stands_before i.texts q p) (nat_lt at.0 p.0) (bytes_eq q name)
-    by p kind.Boolean q = ap (λ b. b || stands_before i.texts q p) (h p q) ∙ left (stands_before i.numbers q p) (stands_before i.texts q p) (nat_lt at.0 p.0) (bytes_eq q name)
-    by p kind.Text q = ap (λ b. b || stands_before i.booleans q p) (h p q) ∙ left (stands_before i.numbers q p) (stands_before i.booleans q p) (nat_lt at.0 p.0) (bytes_eq q name)
-
-pub with_boolean : (i : Inputs) (fs : FirstPlaces) (at : Place) (name : List ℕ) → Notes i.booleans name at fs → Notices i (Takes at kind.Boolean name) (record i { booleans = fs })
-with_boolean i fs at name h = by
-  where
-    by : (p : Place) (k : Kind) (q : List ℕ) → is_retyped (record i { booleans = fs }) p k q ≡ (is_retyped i p k q || differs p k q (Takes at kind.Boolean name))
-    by p kind.Number q = ap (λ b. b || stands_before i.texts q p) (h p q) ∙ left (stands_before i.booleans q p) (stands_before i.texts q p) (nat_lt at.0 p.0) (bytes_eq q name)
-    by p kind.Boolean q = neither (stands_before i.numbers q p || stands_before i.texts q p) (nat_lt at.0 p.0) (bytes_eq q name)
-    by p kind.Text q = ap (λ b. stands_before i.numbers q p || b) (h p q) ∙ right (stands_before i.numbers q p) (stands_before i.booleans q p) (nat_lt at.0 p.0) (bytes_eq q name)
-
-pub with_text : (i : Inputs) (fs : FirstPlaces) (at : Place) (name : List ℕ) → Notes i.texts name at fs → Notices i (Takes at kind.Text name) (record i { texts = fs })
-with_text i fs at name h = by
-  where
-    by : (p : Place) (k : Kind) (q : List ℕ) → is_retyped (record i { texts = fs }) p k q ≡ (is_retyped i p k q || differs p k q (Takes at kind.Text name))
-    by p kind.Number q = ap (λ b. stands_before i.booleans q p || b) (h p q) ∙ right (stands_before i.booleans q p) (stands_before i.texts q p) (nat_lt at.0 p.0) (bytes_eq q name)
-    by p kind.Boolean q = ap (λ b. stands_before i.numbers q p || b) (h p q) ∙ right (stands_before i.numbers q p) (stands_before i.texts q p) (nat_lt at.0 p.0) (bytes_eq q name)
-    by p kind.Text q = neither (stands_before i.numbers q p || stands_before i.booleans q p) (nat_lt at.0 p.0) (bytes_eq q name)
-
-pub ruleset typed = (with_number, with_boolean, with_text)
-
 -- ---- what is refused of mentions
 
 nothing : (b : Bool) → b ≡ (b || false)
 nothing true = refl
 nothing false = refl
-
-pub none_noticed : (i : Inputs) (p : Place) (k : Kind) (q : List ℕ) → is_retyped i p k q ≡ (is_retyped i p k q || false)
-none_noticed i p k q = nothing (is_retyped i p k q)
 
 abbrev Agrees : Inputs → List Mention → Type 0
 Agrees i all = (p : Place) (k : Kind) (q : List ℕ) → is_retyped i p k q ≡ list_any (differs p k q) all

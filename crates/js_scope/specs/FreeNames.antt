@@ -2,7 +2,7 @@
 use Rattle.std.specs.Prelude.{◌≡◌, List, [], ◌∷◌, map, slice_get}
 use Rattle.std.specs.List.{flat_map}
 use Rattle.js_value.specs.declared.place.FuncNo.{FuncNo}
-use Rattle.js_tree.specs.Mentions.{Mention, Inside, Names, distinct, mentioned_name, of_none}
+use Rattle.js_tree.specs.Mentions.{Mention, Reads, Inside, Names, distinct, mentioned_name, of_none}
 
 -- the names that are mentioned, in order
 abbrev pub names_in : List Mention → Names
@@ -22,8 +22,13 @@ table_of insides = map (λ (i : Inside). names_in i.1) insides
 abbrev pub IsFirst : Inside → Inside → Type 0
 IsFirst i j = (j.0 ≡ i.0) × (names_in j.1 ≡ free_in i)
 
-abbrev pub AreFirst : List Inside → List Inside → Type 0
-AreFirst [] [] = Unit {0}
-AreFirst [] (j ∷ js) = ⊥
-AreFirst (i ∷ is) [] = ⊥
-AreFirst (i ∷ is) (j ∷ js) = IsFirst i j × AreFirst is js
+-- without the names that are read
+abbrev pub unread_one : Mention → List Mention
+unread_one (Reads at name) = []
+unread_one m = m ∷ []
+
+abbrev pub unread : List Mention → List Mention
+unread ms = flat_map unread_one ms
+
+abbrev pub IsUnread : Inside → Inside → Type 0
+IsUnread i j = (j.0 ≡ i.0) × (j.1 ≡ unread i.1)

@@ -6,14 +6,15 @@ ghost use Rattle.std.specs.Option.{option_to_list};
 ghost use Rattle.js_tree.specs.Early as early;
 ghost use Rattle.js_tree.specs.Mentions as tree;
 ghost use Rattle.js_scope.specs.Checking.{Tells};
+ghost use Rattle.js_scope.specs.FreeNames.{unread};
 ghost use Rattle.js_scope.specs.Inputs as inputs_spec;
 ghost use Rattle.js_scope.specs.Jumps as spec;
 ghost use Rattle.js_scope.specs.Mentioning as mentioning;
 
-use crate::functions::insides;
 use crate::inputs::Inputs;
 use crate::jumps::{Jump, in_stmts, lesser};
 use crate::mention::Mention;
+use crate::unread::unread_insides;
 use crate::walk::Walk;
 use js_tree::{Feature, ReadRefused, Script, Stmt};
 use js_value::NoMemory;
@@ -71,12 +72,11 @@ fn fault_by(inputs: &Inputs, all: &[Mention], least: Option<ReadRefused>) -> Opt
     least
 }
 
-/// All that a script mentions, its functions where they stand.
-#[tactic(auto, using(crate::proofs::Whole::whole))]
+/// What a script mentions, its functions where they stand, but for names that functions read.
 fn mentions_of<'a>(alloc: Global, script: &'a Script) -> Result<Vec<Mention<'a>>, NoMemory>
-    ensures { IfOk result (λ mentions. mentioning.told mentions.items ≡ tree.mentions script.now) }
+    ensures { IfOk result (λ mentions. unread (mentioning.told mentions.items) ≡ unread (tree.mentions script.now)) }
 {
-    let insides = insides(alloc, script.funcs.as_slice())?;
+    let insides = unread_insides(alloc, script.funcs.as_slice())?;
     let walk = Walk {
         alloc,
         first: 0,

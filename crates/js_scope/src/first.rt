@@ -1,6 +1,7 @@
 //! What functions mention of names that they don't declare, each name once.
 
 ghost use Rattle.std.specs.Prelude.{◌≡◌, map, IfOk, OnOk};
+ghost use Rattle.std.specs.List.{AllZip};
 ghost use Rattle.js_tree.specs.Mentions as tree;
 ghost use Rattle.js_scope.specs.FreeNames as free;
 ghost use Rattle.js_scope.specs.Hoisting as hoisting;
@@ -67,7 +68,7 @@ fn first_inside<'a>(alloc: Global, inside: &Inside<'a>) -> Result<Inside<'a>, No
 
 /// The own names of a script's functions, and the first mention of each name that they mention and don't declare.
 pub fn first_insides<'a>(alloc: Global, all: &'a [Func]) -> Result<VecDeque<Inside<'a>>, NoMemory>
-    ensures { IfOk result (λ insides. free.AreFirst (tree.insides_from 0 all.now) (map spec.inside_of insides.items)) }
+    ensures { IfOk result (λ insides. AllZip free.IsFirst (tree.insides_from 0 all.now) (map spec.inside_of insides.items)) }
 {
     let mut insides = VecDeque::new(alloc);
     for done in 0..all.len() {

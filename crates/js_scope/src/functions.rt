@@ -139,17 +139,3 @@ pub fn from_number(all: &[Func], n: usize) -> &[Func]
 {
     &all[n..]
 }
-
-/// The own names of a script's functions, and what they mention of names that they don't declare.
-pub fn insides<'a>(alloc: Global, all: &'a [Func]) -> Result<VecDeque<Inside<'a>>, NoMemory>
-    ensures { IfOk result (λ insides. map spec.inside_of insides.items ≡ tree.insides_from 0 all.now) }
-{
-    let mut insides = VecDeque::new(alloc);
-    for done in 0..all.len() {
-        let n = all.len() - 1 - done;
-        let behind = from_number(all, n + 1);
-        let next = inside(alloc, &all[n], behind, n + 1, &insides)?;
-        insides.push_front(next)?;
-    }
-    Ok(insides)
-}

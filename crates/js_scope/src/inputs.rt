@@ -49,7 +49,7 @@ impl FirstPlaces {
     }
 
     /// Notes that a name stands at a place too.
-    #[tactic(auto, using(crate::proofs::Typed::stands))]
+    #[tactic(auto, using(crate::proofs::Typed::kept))]
     fn note(&mut self, alloc: Global, name: &Text, at: Place) -> Result<(), NoMemory>
         ensures { OnOk result (spec.Notes self.old name.now at self.new) }
     {

@@ -12,6 +12,7 @@ mod mention;
 mod names;
 mod properties;
 mod statements;
+mod unread;
 mod walk;
 
 pub use early::check;

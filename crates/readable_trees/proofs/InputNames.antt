@@ -9,7 +9,7 @@ use Rattle.js_tree.specs.Parts.{is_among}
 use Rattle.js_scope.proofs.Gathered.{among_one}
 use Rattle.readable_trees.specs.declared.inputs.InputNames.{InputNames}
 use Rattle.readable_trees.specs.Items.{Item, Items, Function, Input}
-use Rattle.readable_trees.specs.Inputs.{agrees, agrees_with, are_alike, are_of, names_agree_with, names_in, no_names, with_item}
+use Rattle.readable_trees.specs.Inputs.{agrees, agrees_with, are_alike, are_of, names_agree_with, input_names, no_names, with_item}
 use Rattle.readable_trees.proofs.Alike.{and_assoc, everywhere}
 
 left : (a b c : Bool) → (not (a || c) && not b) ≡ ((not a && not b) && (not c || false))
@@ -62,9 +62,9 @@ with_none kind.Number q = refl
 with_none kind.Boolean q = refl
 with_none kind.Text q = refl
 
-one_agrees : (is : Items) (i : Item) → names_agree_with (names_in is) i ≡ agrees_with is i
+one_agrees : (is : Items) (i : Item) → names_agree_with (input_names is) i ≡ agrees_with is i
 one_agrees is (Function f) = refl
 one_agrees is (Input k q) = with_all is no_names k q ∙ ap (λ b. b && list_all (agrees k q) is) (with_none k q)
 
-pub names_tell : (is : Items) → list_all (names_agree_with (names_in is)) is ≡ are_alike is
-names_tell is = everywhere (names_agree_with (names_in is)) (agrees_with is) (one_agrees is) is
+pub names_tell : (is : Items) → list_all (names_agree_with (input_names is)) is ≡ are_alike is
+names_tell is = everywhere (names_agree_with (input_names is)) (agrees_with is) (one_agrees is) is

@@ -50,8 +50,8 @@ with_item n (Input kind.Number name) = record n { numbers = add n.numbers name }
 with_item n (Input kind.Boolean name) = record n { booleans = add n.booleans name }
 with_item n (Input kind.Text name) = record n { texts = add n.texts name }
 
-abbrev pub names_in : Items → InputNames
-names_in items = fold with_item no_names items
+abbrev pub input_names : Items → InputNames
+input_names items = fold with_item no_names items
 
 -- no input of this name has another type
 abbrev pub are_of : InputNames → Kind → List ℕ → Bool

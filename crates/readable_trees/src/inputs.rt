@@ -85,7 +85,7 @@ impl InputNames {
 
     /// The names of the inputs among these.
     fn of(alloc: Global, all: &[Item]) -> Result<InputNames, NoMemory>
-        ensures { IfOk result (λ names. names ≡ spec.names_in (told all.now)) }
+        ensures { IfOk result (λ names. names ≡ spec.input_names (told all.now)) }
     {
         let mut names = InputNames::new(alloc);
         for item in all {

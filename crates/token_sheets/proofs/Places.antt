@@ -13,7 +13,7 @@ use Rattle.std.proofs.lemmas.List.Folds.{position_or_len_push}
 use Rattle.std.proofs.lemmas.Slice.Eq.{bytes_eq-Decides}
 use Rattle.js_tree.specs.Mentions.{Names}
 use Rattle.js_scope.proofs.Repeated.{same_key}
-use Rattle.token_sheets.specs.NamePlaces.{Forgets, NamePlaces, Notes, forgotten, is_place, noted, place_of}
+use Rattle.token_sheets.specs.NamePlaces.{IsForgotten, NamePlaces, IsNoted, forgotten, is_place, noted, place_of}
 
 same_name : (places : NamePlaces) (q x : List ℕ) → bytes_eq q x ≡ true → place_of places x ≡ place_of places q
 same_name places q x e = ap (place_of places) (sym ((bytes_eq-Decides q x).0 e))
@@ -27,7 +27,7 @@ put_first (Some k) true n h = let e : Some k ≡ None = h refl in absurd (cc)
 put_first (Some k) false n h = refl
 
 pub noted_first : (old new : NamePlaces) (name : List ℕ) (n : ℕ) → place_of old name ≡ None
-    → ((q : List ℕ) → place_of new q ≡ cond (bytes_eq name q) (Some n) (place_of old q)) → Notes old (λ q. bytes_eq q name) n new
+    → ((q : List ℕ) → place_of new q ≡ cond (bytes_eq name q) (Some n) (place_of old q)) → IsNoted old (λ q. bytes_eq q name) n new
 noted_first old new name n h is = λ q.
     is q ∙ ap (λ b. cond b (Some n) (place_of old q)) (same_key name q)
     ∙ put_first (place_of old q) (bytes_eq q name) n (λ e. sym (same_name old q name e) ∙ h)
@@ -48,7 +48,7 @@ place_is None n h = absurd (cc)
 place_is (Some k) n h = ap (λ j. Some j) (eqb-true k n h)
 
 pub forgotten_one : (old new : NamePlaces) (name : List ℕ) (n : ℕ) → is_place (place_of old name) n ≡ true
-    → ((q : List ℕ) → place_of new q ≡ cond (bytes_eq name q) None (place_of old q)) → Forgets old (λ q. bytes_eq q name) n new
+    → ((q : List ℕ) → place_of new q ≡ cond (bytes_eq name q) None (place_of old q)) → IsForgotten old (λ q. bytes_eq q name) n new
 forgotten_one old new name n h is = λ q.
     is q ∙ ap (λ b. cond b None (place_of old q)) (same_key name q)
     ∙ held_no_more (place_of old q) (bytes_eq q name) n (λ e. sym (same_name old q name e) ∙ place_is (place_of old name) n h)
@@ -58,7 +58,7 @@ held_elsewhere None b n h = refl
 held_elsewhere (Some k) false n h = refl
 held_elsewhere (Some k) true n h = ap (λ c. if c then None else Some k) (sym (h refl))
 
-pub forgotten_none : (places : NamePlaces) (name : List ℕ) (n : ℕ) → is_place (place_of places name) n ≡ false → Forgets places (λ q. bytes_eq q name) n places
+pub forgotten_none : (places : NamePlaces) (name : List ℕ) (n : ℕ) → is_place (place_of places name) n ≡ false → IsForgotten places (λ q. bytes_eq q name) n places
 forgotten_none places name n h = λ q. held_elsewhere (place_of places q) (bytes_eq q name) n (λ e. ap (λ o. is_place o n) (sym (same_name places q name e)) ∙ h)
 
 -- ---- what a map gives

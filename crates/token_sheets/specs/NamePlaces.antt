@@ -34,8 +34,8 @@ abbrev pub forgotten : Option ℕ → Bool → ℕ → Option ℕ
 forgotten None holds n = None
 forgotten (Some k) holds n = if holds && k == n then None else Some k
 
-abbrev pub Notes : NamePlaces → (List ℕ → Bool) → ℕ → NamePlaces → Type 0
-Notes old holds n new = (q : List ℕ) → place_of new q ≡ noted (place_of old q) (holds q) n
+abbrev pub IsNoted : NamePlaces → (List ℕ → Bool) → ℕ → NamePlaces → Type 0
+IsNoted old holds n new = (q : List ℕ) → place_of new q ≡ noted (place_of old q) (holds q) n
 
-abbrev pub Forgets : NamePlaces → (List ℕ → Bool) → ℕ → NamePlaces → Type 0
-Forgets old holds n new = (q : List ℕ) → place_of new q ≡ forgotten (place_of old q) (holds q) n
+abbrev pub IsForgotten : NamePlaces → (List ℕ → Bool) → ℕ → NamePlaces → Type 0
+IsForgotten old holds n new = (q : List ℕ) → place_of new q ≡ forgotten (place_of old q) (holds q) n

@@ -18,7 +18,7 @@ fn note(
     name: &Text,
     n: usize,
 ) -> Result<(), NoMemory>
-    ensures { OnOk result (spec.Notes places.old.entries (λ q. bytes_eq q name.now) n places.new.entries) }
+    ensures { OnOk result (spec.IsNoted places.old.entries (λ q. bytes_eq q name.now) n places.new.entries) }
 {
     if places.get(name).is_none() {
         places.insert(name.copy(alloc)?, n)?;
@@ -33,7 +33,7 @@ fn note_all(
     names: &[Text],
     n: usize,
 ) -> Result<(), NoMemory>
-    ensures { OnOk result (spec.Notes places.old.entries (is_among names.now) n places.new.entries) }
+    ensures { OnOk result (spec.IsNoted places.old.entries (is_among names.now) n places.new.entries) }
 {
     for name in names {
         note(places, alloc, name, n)?;
@@ -53,7 +53,7 @@ fn holds(places: &IndexMap<Text, usize>, name: &Text, n: usize) -> bool
 
 /// Notes that what has a number doesn't hold a name any more.
 fn forget(places: &mut IndexMap<Text, usize>, name: &Text, n: usize)
-    ensures { spec.Forgets places.old.entries (λ q. bytes_eq q name.now) n places.new.entries }
+    ensures { spec.IsForgotten places.old.entries (λ q. bytes_eq q name.now) n places.new.entries }
 {
     if holds(places, name, n) {
         places.swap_remove(name);
@@ -62,7 +62,7 @@ fn forget(places: &mut IndexMap<Text, usize>, name: &Text, n: usize)
 
 /// Notes that what has a number doesn't hold these names any more.
 fn forget_all(places: &mut IndexMap<Text, usize>, names: &[Text], n: usize)
-    ensures { spec.Forgets places.old.entries (is_among names.now) n places.new.entries }
+    ensures { spec.IsForgotten places.old.entries (is_among names.now) n places.new.entries }
 {
     for name in names {
         forget(places, name, n);
