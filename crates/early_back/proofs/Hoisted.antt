@@ -57,7 +57,7 @@ declares_layer : (l : StmtForm-F StmtForm Case Catch Finally Stmt)
 declares_layer (StmtForm-F.FuncDecl f) = refl
 declares_layer l = refl
 
-unplaced_form : (t : Stmt) → out-StmtForm (unplaced.stmt t).form
+pub unplaced_form : (t : Stmt) → out-StmtForm (unplaced.stmt t).form
     ≡ unplaced.in_stmt_form (map-StmtForm StmtForm Case Catch Finally Stmt StmtForm Case Catch Finally Stmt stmt_form case catch finally unplaced.stmt (out-StmtForm t.form))
 unplaced_form t =
     ap (λ (u : Stmt). out-StmtForm u.form) (fold_out-Stmt StmtForm Case Catch Finally Stmt unplaced.of_stmt_form unplaced_case unplaced.of_catch (λ f. roll-Finally f) unplaced.of_stmt t)

@@ -48,13 +48,13 @@ named : (o : Option Func) → name_of (option_map unplaced.func o) ≡ name_of o
 named None = refl
 named (Some f) = own_is f.name
 
-names_are : (n : ℕ) (fs : List Func) (numbers : List FuncNo) → names_of n (map unplaced.func fs) numbers ≡ names_of n fs numbers
+pub names_are : (n : ℕ) (fs : List Func) (numbers : List FuncNo) → names_of n (map unplaced.func fs) numbers ≡ names_of n fs numbers
 names_are n fs [] = refl
 names_are n fs (g ∷ gs) =
     ap (λ xs. xs ++ names_of n (map unplaced.func fs) gs) (ap name_of (item_is unplaced.func n fs g) ∙ named (item_for n fs g))
     ∙ ap (λ xs. name_of (item_for n fs g) ++ xs) (names_are n fs gs)
 
-texts : (ps : List Name) → map (λ (p : Name). p.text) (map unplaced.name ps) ≡ map (λ (p : Name). p.text) ps
+pub texts : (ps : List Name) → map (λ (p : Name). p.text) (map unplaced.name ps) ≡ map (λ (p : Name). p.text) ps
 texts [] = refl
 texts (p ∷ ps) = ap (λ xs. p.text ∷ xs) (texts ps)
 

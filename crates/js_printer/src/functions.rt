@@ -9,12 +9,10 @@ ghost use Rattle.script_text.specs.Printing as spec;
 
 use crate::expressions::Printer;
 use early_back::early_back;
-use js_grammar::reading_laws;
 use js_tree::{Func, Script};
 use js_value::{Bytes, FuncNo, NoMemory, Text};
 use lexing_back::lexing_back;
 use reading_back::reading_back;
-use reading_limits::reading_limits;
 use std::alloc::Global;
 use token_sheets::Sheet;
 
@@ -79,8 +77,6 @@ pub fn print(alloc: Global, script: &Script) -> Result<Bytes, NoMemory>
     // Laws of the definitions, with nothing to run.
     lexing_back();
     reading_back();
-    reading_laws();
-    reading_limits();
     early_back();
     let mut page = Sheet::lines(alloc);
     crate::functions::script(alloc, script, &mut page)?;

@@ -55,7 +55,7 @@ gathered body = ap (λ xs. add_all [] xs) (flat_map-map (λ x. x) vars_in body) 
 
 -- ---- a set of names has the names of the list
 
-same_name : (xs : Names) (q x : List ℕ) → bytes_eq q x ≡ true → is_among xs x ≡ is_among xs q
+pub same_name : (xs : Names) (q x : List ℕ) → bytes_eq q x ≡ true → is_among xs x ≡ is_among xs q
 same_name xs q x e = ap (is_among xs) (sym ((bytes_eq-Decides q x).0 e))
 
 among_added : (names : Names) (x q : List ℕ) (b : Bool) → is_among names x ≡ b → is_among (add names x) q ≡ (is_among names q || bytes_eq q x)

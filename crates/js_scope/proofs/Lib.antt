@@ -4,4 +4,7 @@ pub mod Faults
 pub mod Repeated
 pub mod Walks
 pub mod Insides
+pub mod Typed
+pub mod Related
+pub mod Firsts
 pub mod Whole

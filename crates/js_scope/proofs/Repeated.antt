@@ -71,7 +71,7 @@ neither true b = refl
 neither false true = refl
 neither false false = refl
 
-same_key : (xs ys : List ℕ) → bytes_eq xs ys ≡ bytes_eq ys xs
+pub same_key : (xs ys : List ℕ) → bytes_eq xs ys ≡ bytes_eq ys xs
 same_key xs ys =
     let d = bytes_eq-Decides ys xs in
     same_from_decides (bytes_eq xs ys) (bytes_eq ys xs) (bytes_eq-Decides xs ys) (λ e. sym (d.0 e), λ e. d.1 (sym e))

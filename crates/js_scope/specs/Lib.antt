@@ -4,3 +4,6 @@ pub mod Mentioning
 pub mod Properties
 pub mod Functions
 pub mod Checking
+pub mod FirstPlaces
+pub mod Inputs
+pub mod FreeNames

@@ -38,7 +38,7 @@ fn name_at(behind: &[Func], first: usize, f: FuncNo) -> Option<&Text>
 }
 
 /// Puts a copy of a name behind the others, where there is one.
-fn push_name(alloc: Global, name: Option<&Text>, names: &mut Seq<Text>) -> Result<(), NoMemory>
+pub fn push_name(alloc: Global, name: Option<&Text>, names: &mut Seq<Text>) -> Result<(), NoMemory>
     ensures { OnOk result (names.new ≡ names.old ++ spec.own_of name.entry) }
 {
     match name {
@@ -62,7 +62,7 @@ fn push_parameters(
 }
 
 /// Puts copies of names behind the others.
-fn push_names(alloc: Global, more: &[Text], names: &mut Seq<Text>) -> Result<(), NoMemory>
+pub fn push_names(alloc: Global, more: &[Text], names: &mut Seq<Text>) -> Result<(), NoMemory>
     ensures { OnOk result (names.new ≡ names.old ++ more.now) }
 {
     for name in more {
@@ -107,7 +107,7 @@ pub fn declared(
 }
 
 /// What a function mentions of names that it doesn't declare, by what is known of the functions behind it.
-fn inside<'a>(
+pub fn inside<'a>(
     alloc: Global,
     f: &'a Func,
     behind: &[Func],
@@ -133,7 +133,7 @@ fn inside<'a>(
 }
 
 /// The functions from a number on.
-fn from_number(all: &[Func], n: usize) -> &[Func]
+pub fn from_number(all: &[Func], n: usize) -> &[Func]
     requires { n < length all.now + 1 }
     ensures { result.now ≡ drop n all.now }
 {

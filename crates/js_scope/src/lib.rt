@@ -2,9 +2,11 @@
 #![tactic(auto)]
 
 mod early;
+mod first;
 mod free;
 mod functions;
 mod hoisting;
+mod inputs;
 mod jumps;
 mod mention;
 mod names;
@@ -13,6 +15,7 @@ mod statements;
 mod walk;
 
 pub use early::check;
-pub use free::free_names;
+pub use free::{FreeNames, free_names};
 pub use functions::declared;
 pub use hoisting::{HoistedNames, hoisted};
+pub use names::Names;

@@ -24,6 +24,7 @@ impl Model for Names {
 }
 
 impl Names {
+    /// No names.
     pub fn new(alloc: Global) -> Names
         ensures { result ≡ [] }
     {
@@ -39,7 +40,7 @@ impl Names {
         self.set.contains(name)
     }
 
-    /// Puts a name behind the others, unless it is among them.
+    /// Puts a name behind the others, unless it is among them. `NoMemory` comes only where there is no memory.
     pub fn add(&mut self, alloc: Global, name: &Text) -> Result<(), NoMemory>
         ensures { OnOk result (self.new ≡ spec.add self.old name.now) }
     {

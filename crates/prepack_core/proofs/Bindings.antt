@@ -8,7 +8,7 @@ use Rattle.std.proofs.lemmas.Bool.{and_parts, and_from}
 use Rattle.std.proofs.lemmas.Option.{get_or_from_slice_get, slice_get_within}
 use Rattle.std.proofs.lemmas.List.Sums.{AllPass-from_list_all}
 use Rattle.simple_scripts.specs.SimpleNames.{is_simple_name}
-use Rattle.simple_runs.specs.Readable.{is_plain_value, is_readable, is_readable_variable}
+use Rattle.simple_runs.specs.PlainVariables.{is_plain_value, is_plain_variable, are_plain_variables}
 use Rattle.std.specs.Str.{bytes_eq}
 use Rattle.indexmap.specs.IndexMap.{insert_entry}
 use Rattle.simple_runs.specs.Events.{lookup, put}
@@ -47,16 +47,14 @@ plain_value value.Undefined = refl
 plain_value (value.Number n) = n.in_range
 
 -- variables with simple names can be written and read again
-pub shown-readable : (es : Entries) → list_all (λ e. is_simple_name e.0) es ≡ true → is_readable (shown es) ≡ true
-shown-readable [] h = refl
-shown-readable (e ∷ es) h =
+pub shown-plain : (es : Entries) → list_all (λ e. is_simple_name e.0) es ≡ true → are_plain_variables (shown es) ≡ true
+shown-plain [] h = refl
+shown-plain (e ∷ es) h =
     let parts = and_parts (is_simple_name e.0) (list_all (λ d. is_simple_name d.0) es) h in
-    and_from (is_readable_variable (e.0, primitive_of e.1)) (is_readable (shown es)) (and_from (is_simple_name e.0) (is_plain_value (primitive_of e.1)) parts.0 (plain_value e.1)) (shown-readable es parts.1)
+    and_from (is_plain_variable (e.0, primitive_of e.1)) (are_plain_variables (shown es)) (and_from (is_simple_name e.0) (is_plain_value (primitive_of e.1)) parts.0 (plain_value e.1)) (shown-plain es parts.1)
 
 pub keys-shown : (es : Entries) → keys_of (shown es) ≡ keys_of es
 keys-shown [] = refl
 keys-shown (e ∷ es) = ap (λ ks. e.0 ∷ ks) (keys-shown es)
 
 -- what passes for all passes for the one at a place
-pub all-at : {X : Type 0} (p : X → Bool) (xs : List X) (i : ℕ) (x : X) → list_all p xs ≡ true → slice_get xs i ≡ Some x → p x ≡ true
-all-at p xs i x h at = ap p (sym (get_or_from_slice_get xs i x x at)) ∙ AllPass-from_list_all p xs h i x (slice_get_within xs i x at)

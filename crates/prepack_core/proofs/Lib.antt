@@ -7,6 +7,12 @@ pub mod Safe
 pub mod Bound
 pub mod Turns
 pub mod Scripts
-pub mod Listed
+pub mod ReadableNames
+pub mod ReadableSnapshots
+pub mod Placing
+pub mod LowSnapshots
+pub mod Written
+pub mod Snapshots
+pub mod RealmPaths
 pub mod Promising
 pub mod Counted

@@ -1,5 +1,5 @@
 -- The residual of a script's variables keeps what is promised.
-use Rattle.std.proofs.Common.{◌≡◌, ℕ, ◌*◌, ◌≤◌, Bool, true, false, cond, List, [], ◌∷◌, ◌++◌, length, map, refl, ap, sym, ◌∙◌, subst, arith, IsTrue}
+use Rattle.std.proofs.Common.{◌≡◌, ℕ, ◌*◌, ◌≤◌, Bool, true, false, cond, List, [], ◌∷◌, ◌++◌, length, map, refl, ap, sym, ◌∙◌, subst, inl, arith}
 use Rattle.std.specs.Prelude.{◌≢◌, Option, Some, Ok, Err}
 use Rattle.js_value.specs.declared.place.Place.{Place}
 use Rattle.js_value.specs.declared.primitive.Primitive.{Primitive}
@@ -14,8 +14,6 @@ use Rattle.js_tree.specs.Count.{nodes}
 use Rattle.js_tree.specs.Refusals.{place}
 use Rattle.simple_scripts.specs.SimpleScripts.{is_simple}
 use Rattle.script_reader.specs.Reads.{reads}
-use Rattle.simple_scripts.specs.Snapshot.{snapshot}
-use Rattle.simple_scripts.specs.Text as simple_text
 use Rattle.plain_heap.specs.Heap.{Heap, Key}
 use Rattle.plain_heap.specs.Values.{ObjNo}
 use Rattle.js_machine.specs.Machine.Choices.{OpenRun, OpenEnded, Stopped, Leaves, EndsOrWants, open_run}
@@ -23,19 +21,18 @@ use Rattle.js_machine.specs.Machine.Listed.{ListedProperty, Row, RealmRow, listi
 use Rattle.js_machine.specs.Machine.Numbers.{global}
 use Rattle.js_machine.specs.Machine.Walks.{World, HostEvent, Ending, Outcome, Ended, Normally, plain}
 use Rattle.simple_runs.specs.Listing.{line, listing as simple_listing}
-use Rattle.simple_runs.specs.Readable.{is_readable, placed}
 use Rattle.simple_runs.specs.Runs as simple
 use Rattle.simple_runs.specs.SimpleListings.{SimpleListings, line_of, row_of}
 use Rattle.simple_runs.specs.SimpleRuns.{SimpleRuns, Says, SaysOpened, came, realm_with}
-use Rattle.simple_runs.specs.SimpleTexts.{SimpleTexts}
 use Rattle.prepack_core.specs.declared.evaluate.Stop.{Stop}
 use Rattle.prepack_core.specs.declared.evaluate.Stop.TheVariants as stop
 use Rattle.prepack_core.specs.declared.report.Report.{Report}
 use Rattle.prepack_core.specs.Evaluates.{Evaluates, IsReportOf, report_of_refusal}
-use Rattle.residual_form.specs.Form.{is_residual, is_fresh}
+use Rattle.residual_form.specs.Snapshot.{snapshot}
 use Rattle.script_text.specs.CodeLine.{code_text}
 use Rattle.script_text.specs.Printing.{script_text}
-use Rattle.prepack_core.specs.Promises.{if_built, taken, variable_in, AreVariables, IsResidualOf, IsReason, IsUnsupported}
+use Rattle.prepack_core.specs.Written.{Rebuilds}
+use Rattle.prepack_core.specs.Promises.{if_built, taken, variable_in, AreVariables, IsResidualOf, IsFinished, IsReason, IsUnsupported}
 
 -- a source within the limit has fewer nodes than the least budget
 pub few_steps : (nodes length steps : ℕ) → 21 * nodes ≤ 20 * length → length ≤ 1048576 → 1000000 ≤ steps → nodes ≤ steps
@@ -127,33 +124,34 @@ are_these s (v ∷ vs) us are =
     let same = same_lines global global false are.fixed [] [] [] are.others (map line_of (map line (v ∷ vs))) are.new [] are.row in
     some_same (v ∷ vs) us (sym (lines_in (v ∷ vs)) ∙ ap (λ ls. map variable_in ls) same.1 ∙ ap (λ ls. map variable_in (ls ++ are.new)) same.0 ∙ are.lines)
 
-pub residual_of : (n : ℕ) (source text : List ℕ) (s : Script) (vs : List (List ℕ × Primitive)) → SimpleRuns → SimpleListings code_text → SimpleTexts → is_simple s ≡ true → is_readable vs ≡ true
-    → reads source 200 ≡ Ok s → taken source ≡ Ok s → nodes s ≤ n → Evaluates s (Ok vs) → text ≡ simple_text.script_text (snapshot vs)
-    → reads (simple_text.script_text (snapshot vs)) 1024 ≡ Ok (placed vs) → IsTrue (is_residual (placed vs)) → IsTrue (is_fresh (placed vs) s) → simple_text.script_text (placed vs) ≡ simple_text.script_text (snapshot vs)
-    → ((w : World) → plain (placed vs) w (nodes (placed vs)) ≡ Ended [] Normally (realm_with vs)) → IsResidualOf n source text
+pub residual_of : (n : ℕ) (source text : List ℕ) (s : Script) (vs : List (List ℕ × Primitive)) → SimpleRuns → SimpleListings code_text → is_simple s ≡ true → reads source 200 ≡ Ok s → nodes s ≤ n
+    → Evaluates s (Ok vs) → Rebuilds vs text → IsResidualOf n source text
 unfolding snapshot script_text
-residual_of n source text s vs law listings texts is readable read takes enough runs e back form fresh same rebuilds = record {
+residual_of n source text s vs law listings is read enough runs written = record {
   script = s;
   reads_source = read;
-  takes_source = takes;
-  residual = placed vs;
-  reads_back = ap (λ t. reads t 1024) e ∙ back;
-  form = form;
-  fresh = fresh;
-  text = e ∙ sym same ∙ texts.placed_ones vs readable;
-  alike = λ w typed stays. listings.agree s (placed vs) (simple.Ended vs) (simple.Ended vs) (plain s w n) (plain (placed vs) w (nodes (placed vs))) (ends law s is w n vs (runs n enough)) (rebuilds w) refl;
+  residual = written.residual;
+  reads_back = written.reads_back;
+  form = written.form;
+  fresh = written.fresh s;
+  text = written.text;
+  alike = λ w typed stays.
+      listings.agree s written.residual (simple.Ended vs) (simple.Ended vs) (plain s w n) (plain written.residual w (nodes written.residual)) (ends law s is w n vs (runs n enough)) (written.runs w) refl;
   paths = λ choices. opens law s is choices n vs (runs n enough);
-  variables = λ closed w calls h us ran are has. written ∙ ap (λ us. script_text (snapshot us)) (are_these s vs us (subst (λ rows. AreVariables s rows us) (listed w calls h ran) are));
-  nothing = λ closed w calls h ran none. written ∙ ap (λ us. script_text (snapshot us)) (no_row vs (sym (listed w calls h ran) ∙ none));
+  variables = λ closed w calls h us ran are has. written.spelled ∙ ap (λ us. script_text (snapshot us)) (are_these s vs us (subst (λ rows. AreVariables s rows us) (listed w calls h ran) are));
+  nothing = λ closed w calls h ran none. written.spelled ∙ ap (λ us. script_text (snapshot us)) (no_row vs (sym (listed w calls h ran) ∙ none));
 }
   where
-    written : text ≡ script_text (snapshot vs)
-    written = e ∙ texts.snapshots vs readable
-
     listed : (w : World) (calls : List HostEvent) (h : Heap) → plain s w n ≡ Ended calls Normally h → listing code_text s h Normally ≡ map row_of (simple_listing vs)
     listed w calls h ran =
         ap (λ g. listing code_text s g Normally) (same_heap calls [] Normally Normally h (realm_with vs) (sym ran ∙ ends law s is w n vs (runs n enough)))
         ∙ listings.rows (code_text s) (free_names s) vs
+
+-- a simple script that ends is one that the budget is enough for
+pub finished_of : (n : ℕ) (source : List ℕ) (s : Script) (vs : List (List ℕ × Primitive)) → SimpleRuns → is_simple s ≡ true → taken source ≡ Ok s → nodes s ≤ n → Evaluates s (Ok vs) → IsFinished n source
+unfolding simple.open_run
+finished_of n source s vs law is takes enough runs =
+    (s, takes, record { ends = λ choices. opens law s is choices n vs (runs n enough); few = inl (law.ends_within s n is (ap simple.opened (runs n enough))) })
 
 pub reason_of : (n : ℕ) (source : List ℕ) (s : Script) (stopped : Stop) (r : Report) → SimpleRuns → is_simple s ≡ true → taken source ≡ Ok s → nodes s ≤ n → Evaluates s (Err stopped) → IsReportOf stopped r → IsReason n source r
 reason_of n source s (stop.Left d) r law is read enough runs reported =

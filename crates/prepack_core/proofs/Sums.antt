@@ -14,7 +14,8 @@ use Rattle.js_tree.specs.declared.expression.ExprForm.TheOpen.{ExprForm-F}
 use Rattle.simple_scripts.specs.Simple.{names_in, names_in_form}
 use Rattle.simple_scripts.specs.SimpleScripts.{Sum, NoSum, LiteralAlone, Terms, joined, sum_form, sum_in}
 use Rattle.js_tree.proofs.Folds.{fold-Binary, fold-Unary}
-use Rattle.prepack_core.specs.Evaluates.{is_sum, is_additive, form_sum, form_names}
+use Rattle.prepack_core.specs.Evaluates.{is_sum, is_additive, form_names}
+use Rattle.simple_scripts.specs.Sums.{form_sum}
 
 joined_parts : (a b : Sum) → is_sum (joined a b) ≡ true → (is_sum a ≡ true) × (is_sum b ≡ true)
 joined_parts LiteralAlone LiteralAlone h = (h, h)

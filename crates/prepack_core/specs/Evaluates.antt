@@ -8,7 +8,7 @@ use Rattle.js_value.specs.declared.place.Place.{Place}
 use Rattle.js_value.specs.declared.primitive.Primitive.{Primitive}
 use Rattle.js_value.specs.declared.why.Why.{Why}
 use Rattle.js_tree.specs.declared.expression.ExprForm.{ExprForm, fold-ExprForm}
-use Rattle.simple_scripts.specs.SimpleScripts.{Sum, NoSum, sum_form}
+use Rattle.simple_scripts.specs.SimpleScripts.{Sum, NoSum}
 use Rattle.simple_runs.specs.Events.{Heap, Tree, Run, lookup, declare}
 use Rattle.simple_runs.specs.Simple.{form_rule, expr_rule}
 use Rattle.simple_runs.specs.Runs.{Ended, Left, walk, plain}
@@ -61,9 +61,6 @@ is_additive _ = false
 abbrev pub combined : BinaryOp → ℤ → ℤ → Result ℤ Why
 combined binary.Sub a b = subtracted a b
 combined _ a b = added a b
-
-abbrev pub form_sum : ExprForm → Sum
-form_sum = fold-ExprForm Sum (Unit {0}) Sum sum_form (λ f. tt) (λ e. e.form)
 
 abbrev pub form_names : ExprForm → List (List ℕ)
 form_names = fold-ExprForm (List (List ℕ)) (List (List ℕ)) (List (List ℕ)) names_in_form (λ f. []) (λ e. e.form)

@@ -9,3 +9,5 @@ pub mod Promises
 pub mod Top
 pub mod Values
 pub mod Evaluates
+pub mod Written
+pub mod RealmPaths

@@ -14,11 +14,11 @@ use Rattle.js_tree.specs.Flat.{is_flat}
 use Rattle.js_tree.specs.Mentions.{Names, hoisted_vars, hoisted_functions, names_of}
 use Rattle.simple_scripts.specs.SimpleScripts.{is_simple}
 use Rattle.js_tree.specs.Refusals.{place}
-use Rattle.simple_scripts.specs.Snapshot.{snapshot}
 use Rattle.plain_heap.specs.Heap.{Heap}
 use Rattle.plain_heap.specs.Values.{Prim}
 use Rattle.js_machine.specs.Machine.Choices.{Stopped, Leaves, open_run, IsWhole, EndsWithin, EndsOrWants}
 use Rattle.residual_form.specs.Form.{is_residual, is_fresh}
+use Rattle.residual_form.specs.Snapshot.{snapshot}
 use Rattle.script_text.specs.CodeLine.{code_text}
 use Rattle.script_text.specs.Printing.{script_text}
 use Rattle.js_machine.specs.Machine.Listed.{Listed, ListedProperty, DataLine, Row, RealmRow, listing, Agree}
@@ -72,10 +72,9 @@ HasListing r rows =
 
 -- The text written is a residual of the source, under a budget of steps for the source.
 pub record IsResidualOf (n : ℕ) (source written : List ℕ) : Type 0 where
-  -- the source is a script, one that is built
+  -- the source is a script
   pub script : Script
   pub reads_source : reads source 200 ≡ Ok script
-  pub takes_source : taken source ≡ Ok script
   -- what is written is a script in residual form, whose temporaries are none of the source's names, and the text of that script
   pub residual : Script
   pub reads_back : reads written 1024 ≡ Ok residual

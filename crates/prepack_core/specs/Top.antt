@@ -77,14 +77,14 @@ reads_whole status.Nested = true
 -- the statuses under which something may be written
 abbrev pub writes : Status → Bool
 writes status.Done = true
-writes status.Differs = true
 writes status.WriteFault = true
 writes _ = false
 
--- What went to the first sink: a whole text, or a front of one where a write failed, or nothing.
+-- What went to the first sink: a whole text, or a front of one where a write failed, or nothing. No command compares texts, so none
+-- ends with a difference.
 abbrev pub IsDelivered : Option Command → Option (List ℕ) → Option (List ℕ) → Status → Option (List ℕ) → Option (List ℕ) → Type 0
 IsDelivered c left left_now status.Done held held_now = (text : List ℕ) × IsRead left left_now (λ source. IsTextOf c source text) × (held_now ≡ after_held held text)
-IsDelivered c left left_now status.Differs held held_now = (text : List ℕ) × IsRead left left_now (λ source. IsTextOf c source text) × (held_now ≡ after_held held text)
+IsDelivered c left left_now status.Differs held held_now = ⊥
 IsDelivered c left left_now status.WriteFault held held_now = (text : List ℕ) × (k : ℕ) × IsRead left left_now (λ source. IsTextOf c source text) × (held_now ≡ after_held held (take k text))
 IsDelivered c left left_now _ held held_now = held_now ≡ held
 
@@ -96,7 +96,7 @@ IsReport c left left_now faults faults_now s r = (status_of r ≡ s) × IsRefusa
 -- What went to the second sink: nothing where all is well, else the line of the status, the whole of it where no write there failed.
 abbrev pub IsTold : Option Command → Option (List ℕ) → Option (List ℕ) → ℕ → ℕ → Status → Option (List ℕ) → Option (List ℕ) → ℕ → ℕ → Type 0
 IsTold c left left_now faults faults_now status.Done held held_now write_faults write_faults_now = held_now ≡ held
-IsTold c left left_now faults faults_now status.Differs held held_now write_faults write_faults_now = held_now ≡ held
+IsTold c left left_now faults faults_now status.Differs held held_now write_faults write_faults_now = ⊥
 IsTold c left left_now faults faults_now s held held_now write_faults write_faults_now =
     (r : Report) × IsReport c left left_now faults faults_now s r × IsAppended held held_now write_faults write_faults_now (line_of r)
 

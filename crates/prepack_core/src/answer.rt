@@ -2,16 +2,15 @@
 
 ghost use Rattle.std.specs.Prelude.{◌≤◌, length, IfOk, IfErr};
 ghost use Rattle.prepack_core.specs.Evaluates.{IsReportOf};
-ghost use Rattle.prepack_core.specs.Promises.{IsResidualOf, IsReason};
+ghost use Rattle.prepack_core.specs.Promises.{IsResidualOf, IsFinished, IsReason};
 
 use crate::evaluate::{Stop, evaluate};
 use crate::report::Report;
 use crate::residual::residual_text;
 use js_tree::{Feature, ReadRefused};
 use js_value::{NoMemory, Place};
-use residual_form::small_form_law;
-use script_reader::{few_nodes_law, read, residual_law};
-use simple_runs::{simple_listing_law, simple_run_law, simple_text_law, snapshot_law};
+use script_reader::{few_nodes_law, read};
+use simple_runs::{simple_listing_law, simple_run_law};
 use simple_scripts::is_simple;
 use std::alloc::Global;
 
@@ -60,25 +59,20 @@ pub fn answer(alloc: Global, steps: u64, source: &[u8]) -> Result<Vec<u8>, Repor
     requires enough { 1000000 ≤ steps }
     requires short { length source.now ≤ 1048576 }
     ensures ok { IfOk result (λ text. IsResidualOf steps source.now text.items) }
+    ensures finished { IfOk result (λ _. IsFinished steps source.now) }
     ensures err { IfErr result (λ r. IsReason steps source.now r) }
 {
     let script = read(alloc, source, NESTING_LIMIT)?;
     if !is_simple(alloc, &script)? {
         return Err(Report::Unsupported(Place(0), Feature::NotBuilt));
     }
-    // Laws of the definitions, with nothing to run: the budget is enough for a simple script of a text of this size, its run by
-    // the rules of the whole language is that by its own, and the text below reads back and rebuilds the variables.
+    // Laws of the definitions, with nothing to run: the budget is enough for a simple script of a text of this size, and its run
+    // by the rules of the whole language is that by its own.
     few_nodes_law();
     simple_run_law();
     simple_listing_law();
     match evaluate(alloc, &script) {
         Err(stop) => Err(report_of(stop)),
-        Ok(variables) => {
-            snapshot_law();
-            simple_text_law();
-            small_form_law();
-            residual_law();
-            Ok(residual_text(alloc, &variables)?)
-        }
+        Ok(variables) => Ok(residual_text(alloc, &variables)?),
     }
 }

@@ -7,6 +7,7 @@ ghost use Rattle.simple_scripts.specs.Simple.{names_in, names_in_init, declared_
 ghost use Rattle.js_tree.specs.Parts.{declarators_in};
 ghost use Rattle.simple_scripts.specs.SimpleScripts.{sum_in, is_simple_declarator, is_simple_statement, is_simple};
 ghost use Rattle.js_tree.specs.declared.statement.StmtForm.{out-StmtForm};
+ghost use Rattle.simple_scripts.specs.Sums.{form_sum};
 ghost use Rattle.simple_runs.specs.Events.{Heap};
 ghost use Rattle.simple_runs.specs.Simple.{evaluation, negation, arithmetic, declarator_rule, declarators_rule, statement as run_of_statement, declared};
 ghost use Rattle.prepack_core.specs.Evaluates as spec;
@@ -108,7 +109,7 @@ fn value_of(e: &Expr, variables: &Variables) -> Result<Value, Departure>
 
 #[cycle(value)]
 fn value_of_form(form: &ExprForm, at: Place, variables: &Variables) -> Result<Value, Departure>
-    requires sum { IsTrue (spec.is_sum (spec.form_sum form.now)) }
+    requires sum { IsTrue (spec.is_sum (form_sum form.now)) }
     requires bound { IsTrue (list_all (spec.is_bound variables.now) (spec.form_names form.now)) }
     ensures { spec.Comes (spec.form_evaluation form.now at) variables.now (count.in_form form.now) result }
 {

@@ -135,10 +135,7 @@ fn write_both<K: Sink>(sink: &mut K, first: &[u8], second: &[u8]) -> bool
     ensures whole { OnTrue result (K.held sink.new ≡ after_held (K.held sink.old) (first.now ++ second.now)) }
     ensures cause { OnFalse result (Rose (K.faults sink.old) (K.faults sink.new)) }
 {
-    if !write_text(sink, first) {
-        return false;
-    }
-    write_text(sink, second)
+    write_text(sink, first) && write_text(sink, second)
 }
 
 /// Writes a place behind `front`, and says whether both were taken.

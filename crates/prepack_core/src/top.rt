@@ -1,7 +1,7 @@
 ghost use Rattle.std.specs.Prelude.{◌≡◌, ◌≢◌, ◌↔◌, ◌⊎◌, ◌+◌, ◌<◌, ◌≤◌, None, IsTrue, IsSome, IfOk, IfErr, map, length, string_bytes};
 ghost use Rattle.prepack_core.specs.Io.{Rose, before_left, IsEmptied};
 ghost use Rattle.prepack_core.specs.Words.{command};
-ghost use Rattle.prepack_core.specs.Promises.{IsResidualOf, IsNoScript, IsUnsupported, IsNested};
+ghost use Rattle.prepack_core.specs.Promises.{IsResidualOf, IsFinished, IsNoScript, IsUnsupported, IsNested};
 ghost use Rattle.js_value.specs.declared.place.Place.{Place};
 ghost use Rattle.js_value.specs.declared.why.Why.{Why};
 ghost use Rattle.js_tree.specs.declared.refusal.Feature.{Feature};
@@ -18,6 +18,8 @@ fn eval<S: Source>(alloc: Global, steps: u64, source: &mut S) -> Result<Vec<u8>,
     requires { 1000000 ≤ steps }
     ensures ok { IfOk result (λ text. IsRead (S.left source.old) (S.left source.new)
         (λ bytes. IsResidualOf steps bytes text.items)) }
+    ensures finished { IfOk result (λ _. IsRead (S.left source.old) (S.left source.new)
+        (λ bytes. IsFinished steps bytes)) }
     ensures err { IfErr result (HasReason steps (S.left source.old) (S.left source.new)
         (S.faults source.old) (S.faults source.new)) }
     ensures front { S.left source.old ≡ before_left
@@ -37,6 +39,8 @@ fn eval<S: Source>(alloc: Global, steps: u64, source: &mut S) -> Result<Vec<u8>,
 fn run_words<S: Source>(alloc: Global, words: &[String], source: &mut S) -> Result<Vec<u8>, Report>
     ensures ok { IfOk result (λ text. IsRead (S.left source.old) (S.left source.new)
         (λ bytes. IsTextOf (command (map string_bytes words.now)) bytes text.items)) }
+    ensures answered { IfOk result (λ _. IsRead (S.left source.old) (S.left source.new)
+        (λ bytes. IsAnswered (command (map string_bytes words.now)) bytes)) }
     ensures asked { IfOk result (λ _. command (map string_bytes words.now) ≢ None) }
     ensures err { IfErr result (IsRefusal (command (map string_bytes words.now)) (S.left source.old)
         (S.left source.new) (S.faults source.old) (S.faults source.new)) }

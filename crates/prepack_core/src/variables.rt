@@ -1,11 +1,11 @@
-ghost use Rattle.std.specs.Prelude.{◌≡◌, [], length, slice_get, IsTrue, IfSome, OnOk};
+ghost use Rattle.std.specs.Prelude.{◌≡◌, [], length, slice_get, IsTrue, OnOk};
 ghost use Rattle.std.specs.List.{IsDistinct};
 ghost use Rattle.std.specs.Map.{keys_of};
 ghost use Rattle.std.specs.Str.{bytes_eq};
 ghost use Rattle.std.specs.Option.{option_map};
 ghost use Rattle.simple_scripts.specs.SimpleNames.{is_simple_name};
 ghost use Rattle.simple_runs.specs.Events as machine;
-ghost use Rattle.simple_runs.specs.Readable.{is_readable};
+ghost use Rattle.simple_runs.specs.PlainVariables.{are_plain_variables};
 ghost use Rattle.prepack_core.specs.Values.{primitive_of};
 
 use crate::value::Value;
@@ -71,10 +71,10 @@ impl Variables {
         Ok(())
     }
 
-    /// How many variables there are. Each can be written in a script and read again, and no name stands twice.
+    /// How many variables there are. Each has a simple name and undefined or a number, and no name stands twice.
     pub fn len(&self) -> usize
         ensures count { result ≡ length self.now }
-        ensures readable { IsTrue (is_readable self.now) }
+        ensures plain { IsTrue (are_plain_variables self.now) }
         ensures distinct { IsDistinct bytes_eq (keys_of self.now) }
     {
         self.map.len()
@@ -82,8 +82,7 @@ impl Variables {
 
     /// The variable at a position, in the order of creation.
     pub fn at(&self, i: usize) -> Option<(&Text, Value)>
-        ensures entry { option_map (λ v. (v.0.now, primitive_of v.1)) result ≡ slice_get self.now i }
-        ensures simple { IfSome result (λ v. IsTrue (is_simple_name v.0.now)) }
+        ensures { option_map (λ v. (v.0.now, primitive_of v.1)) result ≡ slice_get self.now i }
     {
         let (name, value) = self.map.as_slice().get_index(i)?;
         Some((name, *value))

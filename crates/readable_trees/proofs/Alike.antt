@@ -19,7 +19,7 @@ use Rattle.readable_trees.specs.Inputs.{numbers, in_functions, in_script, agrees
 use Rattle.readable_trees.proofs.Named.{body_named}
 use Rattle.readable_trees.proofs.Mentioned.{taken_of, taken, taken_unbound, taken_owned, opened, body_takes}
 
-and_assoc : (a b c : Bool) → ((a && b) && c) ≡ (a && (b && c))
+pub and_assoc : (a b c : Bool) → ((a && b) && c) ≡ (a && (b && c))
 and_assoc true b c = refl
 and_assoc false b c = refl
 
@@ -164,7 +164,7 @@ agree_all all (M.AssignsOwn at) = refl
 agree_all all (M.Takes at kind name) = along (R.agrees kind name) (agrees kind name) (agree_one kind name) all ∙ alone (list_all (agrees kind name) (taken all))
 agree_all all (M.Repeats at) = refl
 
-everywhere : (q r : Item → Bool) → ((i : Item) → q i ≡ r i) → (is : Items) → list_all q is ≡ list_all r is
+pub everywhere : (q r : Item → Bool) → ((i : Item) → q i ≡ r i) → (is : Items) → list_all q is ≡ list_all r is
 everywhere q r h [] = refl
 everywhere q r h (i ∷ is) = ap (λ b. b && list_all q is) (h i) ∙ ap (λ b. r i && b) (everywhere q r h is)
 

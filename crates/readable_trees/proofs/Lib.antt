@@ -4,3 +4,4 @@ pub mod ItemForms
 pub mod Named
 pub mod Mentioned
 pub mod Alike
+pub mod InputNames

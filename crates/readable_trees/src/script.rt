@@ -24,7 +24,7 @@ fn passes_early_checks(alloc: Global, script: &Script) -> Result<bool, NoMemory>
 
 /// Whether a script is one that reading can give: its names, keys and literals are such as a text gives, its parts stand where
 /// the grammar takes them (11, 12, 13), its functions are in source order, each input has one type, and it passes the early
-/// checks (16). Places aren't looked at. `NoMemory` comes only where there is no memory. Each input is compared with all others.
+/// checks (16). Places aren't looked at. `NoMemory` comes only where there is no memory.
 #[tactic(auto, unfolding(js_grammar::specs::Readable::is_readable))]
 pub fn is_readable(alloc: Global, script: &Script) -> Result<bool, NoMemory>
     ensures { IfOk result (λ b. b ≡ spec.is_readable script.now) }

@@ -1,5 +1,5 @@
 -- Properties of object literals (11.1.5).
-use Rattle.std.proofs.Common.{◌≡◌, ℕ, suc, Bool, true, false, cond, List, [], ◌∷◌, ◌++◌, refl, ap, sym, ◌∙◌, append_assoc}
+use Rattle.std.proofs.Common.{◌≡◌, ℕ, suc, Bool, true, false, cond, List, [], ◌∷◌, ◌++◌, refl, ap, sym, ◌∙◌, append_assoc, ◌≤◌, arith}
 use Rattle.std.specs.Prelude.{◌&&◌, codes, slice_get, Some, None, is_some}
 use Rattle.js_value.specs.declared.place.FuncNo.{FuncNo}
 use Rattle.js_value.specs.declared.place.Place.{Place}
@@ -30,7 +30,7 @@ use Rattle.reading_back.specs.Unplaced as unplaced
 use Rattle.reading_back.proofs.Flowing.{flows_last}
 use Rattle.reading_back.proofs.LooseOperators.{assignment_reads, colon_is}
 use Rattle.reading_back.proofs.Names.{keyed_so}
-use Rattle.reading_back.proofs.Steps.{after, from, on, stays, bind, expected}
+use Rattle.reading_back.proofs.Steps.{exactly, after, from, on, stays, bind, expected}
 
 -- ---- the same but for places
 
@@ -100,17 +100,17 @@ value_starts : {all : World} (w : Frame all) (c : Spot) (k : TokenForm) (line : 
 unfolding form_of reserved_word P.property
 value_starts w c k line zs = both_false (is_some (Marks.accessor_word Marks.get_word k)) (is_some (Marks.accessor_word Marks.set_word k)) _ _ _ _
 
-module _ {all : World} {starts : Bool} {px : List Piece} {nx : Numbers} {x : Expr} (at : Place) (f : Field) (key : List ℕ) (is : out-Field f ≡ Field-F.Value at key x) (fx : Fit all 2 starts true px nx x) where
+module _ {all : World} {bx : ℕ} {starts : Bool} {px : List Piece} {nx : Numbers} {x : Expr} (at : Place) (f : Field) (key : List ℕ) (is : out-Field f ≡ Field-F.Value at key x) (fx : Fit all bx 2 starts true px nx x) where
   abbrev pieces : List Piece
   pieces = (key_before Loose key ++ closing (codes ":")) ++ px
 
   split : (line : Bool) → tokens_from line pieces ≡ shape (key_form key) line ∷ shape (form_of (codes ":")) false ∷ tokens_from false px
   split line = ap (tokens_from line) (append_assoc (key_before Loose key) (closing (codes ":")) px) ∙ keys Loose key line (closing (codes ":") ++ px)
 
-  value_reads : Read all fx.part.bound pieces nx (IsField f) (below true 2) (P.property grammar) give
+  value_reads : Read all bx pieces nx (IsField f) (below true 2) (P.property grammar) give
   value_reads = record {
-    at = λ w c line rest nz room ready fits.
-        let k : Shape = shape (key_form key) line in
+    at = λ w c line rest nz ready fits.
+        exactly (let k : Shape = shape (key_form key) line in
         let l : Shape = shape (form_of (codes ":")) false in
         let p = (c.supply 0).0 in
         on (ap (λ zs. zs ++ rest) (split line))
@@ -118,18 +118,17 @@ module _ {all : World} {starts : Bool} {px : List Piece} {nx : Numbers} {x : Exp
         (from {d = c} {other = k ∷ l ∷ (tokens_from false px ++ rest)} {n = expect Marks.property_name >>= λ key. expect Marks.colon >> (grammar.assignment true >>= λ x. give (field.Value p key x))} refl
         (expected {c = c} {s = k} Marks.property_name key (λ key. expect Marks.colon >> (grammar.assignment true >>= λ x. give (field.Value p key x))) (key_is key)
         (expected {c = after c k} {s = l} Marks.colon tt (λ _. grammar.assignment true >>= λ x. give (field.Value p key x)) colon_is
-        (bind ((assignment_reads fx).at w (after (after c k) l) false rest nz room ready fits) (λ y d isx done.
-        stays {c = d} (field.Value p key y) give (same_fields (field.Value p key y) f _ _ (field.outs-Value p key y) is (ap (λ z. unplaced.of_field (Field-F.Value p key z)) isx.same)) done))))));
+        (bind ((assignment_reads fx).at w (after (after c k) l) false rest nz ready fits) (λ y d isx done.
+        stays {c = d} (field.Value p key y) give (same_fields (field.Value p key y) f _ _ (field.outs-Value p key y) is (ap (λ z. unplaced.of_field (Field-F.Value p key z)) isx.same)) done))))))) (omega arith);
   }
 
-  pub value_part : FieldPart all pieces nx f
+  pub value_part : FieldPart all bx pieces nx f
   value_part = record {
     flows = flows_last (key_before Loose key ++ closing (codes ":")) px fx.part.flows;
     form = key_form key;
     more = shape (form_of (codes ":")) false ∷ tokens_from false px;
     is = split;
     begins = key_no_mark (key_form key) key (key_is key);
-    bound = fx.part.bound;
     reads = value_reads;
   }
 
@@ -161,51 +160,49 @@ accessor_pieces first key pf = (word first ++ key_before Tight key) ++ pf
 split_accessor : (first key : List ℕ) (pf : List Piece) (line : Bool) → tokens_from line (accessor_pieces first key pf) ≡ shape (form_of first) line ∷ shape (key_form key) false ∷ tokens_from false pf
 split_accessor first key pf line = ap (λ zs. shape (form_of first) line ∷ zs) (keys Tight key false pf)
 
-module _ {all : World} {function : Bool → FuncNo → List Piece} (reads : FunctionsRead all function) (at : Place) (f : Field) (key : List ℕ) (g : FuncNo) where
+module _ {all : World} {function : Bool → FuncNo → List Piece} {inside : FuncNo → ℕ} (reads : FunctionsRead all function inside) (at : Place) (f : Field) (key : List ℕ) (g : FuncNo) (short : all.tall g ≤ all.high) where
   getter_reads : out-Field f ≡ Field-F.Getter at key g → is_accessor 0 (slice_get all.functions g.0) ≡ true
-      → Read all reads.bound (accessor_pieces (codes "get") key (function false g)) (g.0 ∷ []) (IsField f) (below true 2) (P.property grammar) give
+      → Read all (inside g) (accessor_pieces (codes "get") key (function false g)) (g.0 ∷ []) (IsField f) (below true 2) (P.property grammar) give
   getter_reads is accessor = record {
-    at = λ w c line rest nz room ready fits.
-        let s : Shape = shape (form_of (codes "get")) line in
+    at = λ w c line rest nz ready fits.
+        exactly (let s : Shape = shape (form_of (codes "get")) line in
         let k : Shape = shape (key_form key) false in
         let p = (c.supply (suc 0)).0 in
         on (ap (λ zs. zs ++ rest) (split_accessor (codes "get") key (function false g) line))
         (from {d = after (after c s) k} (getter_starts w c line (key_form key) key (tokens_from false (function false g) ++ rest) (key_is key))
-        (bind ((reads.getter g (c.supply 0).0 accessor).at w (after (after c s) k) false rest nz room ready tt) (λ h d number done.
-        stays {c = d} (field.Getter p key h) give (same_fields (field.Getter p key h) f _ _ (field.outs-Getter p key h) is (ap (λ z. unplaced.of_field (Field-F.Getter p key z)) number.same)) done)));
+        (bind ((reads.getter g (c.supply 0).0 short accessor).at w (after (after c s) k) false rest nz ready tt) (λ h d number done.
+        stays {c = d} (field.Getter p key h) give (same_fields (field.Getter p key h) f _ _ (field.outs-Getter p key h) is (ap (λ z. unplaced.of_field (Field-F.Getter p key z)) number.same)) done)))) (omega arith);
   }
 
   setter_reads : out-Field f ≡ Field-F.Setter at key g → is_accessor 1 (slice_get all.functions g.0) ≡ true
-      → Read all reads.bound (accessor_pieces (codes "set") key (function false g)) (g.0 ∷ []) (IsField f) (below true 2) (P.property grammar) give
+      → Read all (inside g) (accessor_pieces (codes "set") key (function false g)) (g.0 ∷ []) (IsField f) (below true 2) (P.property grammar) give
   setter_reads is accessor = record {
-    at = λ w c line rest nz room ready fits.
-        let s : Shape = shape (form_of (codes "set")) line in
+    at = λ w c line rest nz ready fits.
+        exactly (let s : Shape = shape (form_of (codes "set")) line in
         let k : Shape = shape (key_form key) false in
         let p = (c.supply (suc 0)).0 in
         on (ap (λ zs. zs ++ rest) (split_accessor (codes "set") key (function false g) line))
         (from {d = after (after c s) k} (setter_starts w c line (key_form key) key (tokens_from false (function false g) ++ rest) (key_is key))
-        (bind ((reads.setter g (c.supply 0).0 accessor).at w (after (after c s) k) false rest nz room ready tt) (λ h d number done.
-        stays {c = d} (field.Setter p key h) give (same_fields (field.Setter p key h) f _ _ (field.outs-Setter p key h) is (ap (λ z. unplaced.of_field (Field-F.Setter p key z)) number.same)) done)));
+        (bind ((reads.setter g (c.supply 0).0 short accessor).at w (after (after c s) k) false rest nz ready tt) (λ h d number done.
+        stays {c = d} (field.Setter p key h) give (same_fields (field.Setter p key h) f _ _ (field.outs-Setter p key h) is (ap (λ z. unplaced.of_field (Field-F.Setter p key z)) number.same)) done)))) (omega arith);
   }
 
-  pub getter_part : out-Field f ≡ Field-F.Getter at key g → is_accessor 0 (slice_get all.functions g.0) ≡ true → FieldPart all (accessor_pieces (codes "get") key (function false g)) (g.0 ∷ []) f
+  pub getter_part : out-Field f ≡ Field-F.Getter at key g → is_accessor 0 (slice_get all.functions g.0) ≡ true → FieldPart all (inside g) (accessor_pieces (codes "get") key (function false g)) (g.0 ∷ []) f
   getter_part is accessor = record {
     flows = reads.ends false g (word (codes "get") ++ key_before Tight key) (flows_last (word (codes "get")) (key_before Tight key) (flows_key Tight key));
     form = form_of (codes "get");
     more = shape (key_form key) false ∷ tokens_from false (function false g);
     is = split_accessor (codes "get") key (function false g);
     begins = get_no_mark;
-    bound = reads.bound;
     reads = getter_reads is accessor;
   }
 
-  pub setter_part : out-Field f ≡ Field-F.Setter at key g → is_accessor 1 (slice_get all.functions g.0) ≡ true → FieldPart all (accessor_pieces (codes "set") key (function false g)) (g.0 ∷ []) f
+  pub setter_part : out-Field f ≡ Field-F.Setter at key g → is_accessor 1 (slice_get all.functions g.0) ≡ true → FieldPart all (inside g) (accessor_pieces (codes "set") key (function false g)) (g.0 ∷ []) f
   setter_part is accessor = record {
     flows = reads.ends false g (word (codes "set") ++ key_before Tight key) (flows_last (word (codes "set")) (key_before Tight key) (flows_key Tight key));
     form = form_of (codes "set");
     more = shape (key_form key) false ∷ tokens_from false (function false g);
     is = split_accessor (codes "set") key (function false g);
     begins = set_no_mark;
-    bound = reads.bound;
     reads = setter_reads is accessor;
   }

@@ -1,5 +1,5 @@
 -- Lists of elements: the code of a script, and the bodies of functions (13, 14).
-use Rattle.std.proofs.Common.{◌≡◌, ◌≤◌, ℕ, ◌+◌, Bool, true, false, cond, List, [], ◌∷◌, ◌++◌, map, refl, ap, sym, ◌∙◌, subst, arith, append_assoc, append-nil}
+use Rattle.std.proofs.Common.{◌≡◌, ℕ, ◌+◌, Bool, true, false, cond, List, [], ◌∷◌, ◌++◌, map, refl, ap, sym, ◌∙◌, subst, arith, append_assoc, append-nil, suc}
 use Rattle.std.specs.Prelude.{◌||◌, Option, ◌&&◌, None, is_some, Ok}
 use Rattle.std.specs.List.{flat_map}
 use Rattle.js_tree.specs.Mentions.{joined}
@@ -21,7 +21,8 @@ use Rattle.reading_back.proofs.StatementClaims.{IsStmt, ElementPart, is_else, en
 use Rattle.reading_back.specs.Unplaced as unplaced
 use Rattle.reading_back.proofs.Joining.{or_false, none}
 use Rattle.reading_back.proofs.StatementLists.{AreStmts, are_more_stmts, no_finally}
-use Rattle.reading_back.proofs.Steps.{from, on, become, stays, bind, parted, opens}
+use Rattle.script_nesting.specs.Opened.{of_stmts}
+use Rattle.reading_back.proofs.Steps.{exactly, from, on, become, stays, bind, parted, opens}
 use Rattle.reading_back.proofs.TwoOperands.{ready_behind}
 
 -- an element, as it is printed
@@ -30,7 +31,8 @@ pub record Element (all : World) : Type 0 where
   pub ends_in_if : Bool
   pub numbers : Numbers
   pub tree : Stmt
-  pub part : ElementPart all ends_in_if pieces numbers tree
+  pub bound : ℕ
+  pub part : ElementPart all bound ends_in_if pieces numbers tree
 
 -- ---- what an element doesn't begin with
 
@@ -64,8 +66,7 @@ neither e f = rw (e, f) refl
 
 module _ {all : World} where
   abbrev pub bounds : List (Element all) → ℕ
-  bounds [] = 0
-  bounds (x ∷ xs) = x.part.bound + 1 + bounds xs
+  bounds xs = of_stmts (map (λ (x : Element all). x.bound) xs)
 
   abbrev pub pieces_all : List (Element all) → List (List Piece)
   pieces_all xs = map (λ (x : Element all). x.pieces) xs
@@ -97,10 +98,10 @@ no_directive : (at : Place) (strict leads is_string : Bool) (t : Stmt) (s : Rest
 no_directive at strict leads is_string t s e = rw (not_strict strict (F.is_directive leads is_string t) (ap (λ b. F.is_directive leads b t) e ∙ no_string leads (F.is_string_statement t))) refl
 
 module _ {all : World} where
-  element_lead : (x : Element all) (leads : Bool) (w : Frame all) (c : Spot) (line : Bool) (more : List Shape) (na : Numbers) → w.opened + (x.part.bound + 1) ≤ w.limit
-      → Ready w c.functions (x.numbers ++ na) → is_else more ≡ false → Leads w na (λ p. IsStmt x.tree p.0) c (tokens_from line x.pieces ++ more) more (F.element_behind grammar leads) give
-  element_lead x leads w c line more na room ready plain =
-      let f = x.part.first in
+  element_lead : (x : Element all) (leads : Bool) (w : Frame all) (c : Spot) (line : Bool) (more : List Shape) (na : Numbers)
+      → Ready w c.functions (x.numbers ++ na) → is_else more ≡ false → Leads (w.opened + suc x.bound) w na (λ p. IsStmt x.tree p.0) c (tokens_from line x.pieces ++ more) more (F.element_behind grammar leads) give
+  element_lead x leads w c line more na ready plain =
+      exactly (let f = x.part.first in
       let s : Shape = shape f.form line in
       let opened : tokens_from line x.pieces ++ more ≡ s ∷ f.more ++ more = ap (λ zs. zs ++ more) (f.is line) in
       let p = (c.supply 0).0 in
@@ -109,10 +110,10 @@ module _ {all : World} where
       on opened
       (from {d = c} {other = s ∷ f.more ++ more} {n = part grammar.element >>= after_element p strict leads is_string} refl
       (on (sym opened)
-      (bind (parted {m = grammar.element} (omega (arith, room)) opened
+      (bind (parted {m = grammar.element} opened
       (from (tied.element (rest_of (deeper w) c (tokens_from line x.pieces ++ more)))
-      (x.part.reads.at (deeper w) c line more na (omega (arith, room)) (opens c.functions (x.numbers ++ na) ready) (record { holds = λ _. plain; no_finally = no_finally more plain })))) (λ y d is done.
-      from (no_directive p strict leads is_string y (rest_of w d more) (ap is_some (starts f.form f.begins).string)) (stays {c = d} (y, F.is_directive leads is_string y) give is done)))))
+      (x.part.reads.at (deeper w) c line more na (opens c.functions (x.numbers ++ na) ready) (record { holds = λ _. plain; no_finally = no_finally more plain })))) (λ y d is done.
+      from (no_directive p strict leads is_string y (rest_of w d more) (ap is_some (starts f.form f.begins).string)) (stays {c = d} (y, F.is_directive leads is_string y) give is done)))))) (omega arith)
 
 -- ---- all elements
 
@@ -127,22 +128,22 @@ module _ {all : World} (closed : Reading Bool) (closes : Closes all closed) wher
   where_open so_far done = cond done (give so_far.0) (F.element_behind grammar so_far.1 >>= λ x. repeat (F.more_elements grammar closed) (so_far.0 ++ (x.0 ∷ []), x.1))
 
   pub elements_lead : (xs : List (Element all)) (model so_far : List Stmt) (leads : Bool) (w : Frame all) (c : Spot) (line : Bool) (rest : List Shape) (nz : Numbers) → AreStmts model so_far
-      → w.opened + bounds xs ≤ w.limit → Ready w c.functions (numbers_all xs ++ nz) → is_else rest ≡ false → ((d : Spot) → closed (rest_of w d rest) ≡ Ok (true, rest_of w d rest))
-      → Leads w nz (AreStmts (model ++ trees xs)) c (front line xs rest) rest (repeat (F.more_elements grammar closed) (so_far, leads)) give
-  elements_lead [] model so_far leads w c line rest nz same room ready plain ends =
-      from (closes.unrolls (so_far, leads) (rest_of w c rest) ∙ ap (λ r. behind r (where_open (so_far, leads))) (ends c))
-      (become {Is = AreStmts model} (λ b h. record { same = h.same ∙ ap (map unplaced.stmt) (sym (append-nil model)) }) (stays {c = c} so_far give same ready))
-  elements_lead (x ∷ xs) model so_far leads w c line rest nz same room ready plain ends =
-      let f = x.part.first in
+      → Ready w c.functions (numbers_all xs ++ nz) → is_else rest ≡ false → ((d : Spot) → closed (rest_of w d rest) ≡ Ok (true, rest_of w d rest))
+      → Leads (w.opened + bounds xs) w nz (AreStmts (model ++ trees xs)) c (front line xs rest) rest (repeat (F.more_elements grammar closed) (so_far, leads)) give
+  elements_lead [] model so_far leads w c line rest nz same ready plain ends =
+      exactly (from (closes.unrolls (so_far, leads) (rest_of w c rest) ∙ ap (λ r. behind r (where_open (so_far, leads))) (ends c))
+      (become {Is = AreStmts model} (λ b h. record { same = h.same ∙ ap (map unplaced.stmt) (sym (append-nil model)) }) (stays {c = c} so_far give same ready))) (omega arith)
+  elements_lead (x ∷ xs) model so_far leads w c line rest nz same ready plain ends =
+      exactly (let f = x.part.first in
       let more = front true xs rest in
       let opened : tokens_from line x.pieces ++ more ≡ shape f.form line ∷ f.more ++ more = ap (λ zs. zs ++ more) (f.is line) in
       let s = rest_of w c (tokens_from line x.pieces ++ more) in
       let goes : closed s ≡ Ok (false, s) = subst (λ zs. closed (rest_of w c zs) ≡ Ok (false, rest_of w c zs)) (sym opened) (closes.goes_on w c f.form line (f.more ++ more) f.begins) in
       from {d = c} {other = tokens_from line x.pieces ++ more} {n = F.element_behind grammar leads >>= λ y. repeat (F.more_elements grammar closed) (so_far ++ (y.0 ∷ []), y.1)}
       (closes.unrolls (so_far, leads) s ∙ ap (λ r. behind r (where_open (so_far, leads))) goes)
-      (bind (element_lead x leads w c line more (numbers_all xs ++ nz) (omega (arith, room)) (ready_behind c.functions x.numbers (numbers_all xs) nz ready) (no_else true xs rest plain)) (λ y d is done.
+      (bind (element_lead x leads w c line more (numbers_all xs ++ nz) (ready_behind c.functions x.numbers (numbers_all xs) nz ready) (no_else true xs rest plain)) (λ y d is done.
       become (λ b h. subst (λ ts. AreStmts ts b) (append_assoc model (x.tree ∷ []) (trees xs)) h)
-      (elements_lead xs (model ++ (x.tree ∷ [])) (so_far ++ (y.0 ∷ [])) y.1 w d true rest nz (are_more_stmts model so_far x.tree y.0 same is) (omega (arith, room)) done plain ends)))
+      (elements_lead xs (model ++ (x.tree ∷ [])) (so_far ++ (y.0 ∷ [])) y.1 w d true rest nz (are_more_stmts model so_far x.tree y.0 same is) done plain ends)))) (omega arith)
 
 -- ---- their pieces
 

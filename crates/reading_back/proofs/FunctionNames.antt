@@ -25,7 +25,7 @@ use Rattle.reading_back.proofs.Groups.{right_parenthesis_is}
 use Rattle.reading_back.proofs.LooseOperators.{comma_is}
 use Rattle.reading_back.proofs.Names.{identifier_form}
 use Rattle.reading_back.proofs.Readability.{both, no_feature}
-use Rattle.reading_back.proofs.Steps.{after, from, become, stays, bind, take, miss, expected}
+use Rattle.reading_back.proofs.Steps.{exactly, after, from, become, stays, bind, take, miss, expected}
 
 -- ---- names
 
@@ -54,15 +54,15 @@ unbarred : {A : Type 0} (at : _) (o : Option Feature) (m : Reading A) (s : Rest)
 unbarred at o m s e = rw e refl
 
 pub name_lead : {all : World} (n : Name) → IsDeclared n.text → (w : Frame all) (c : Spot) (line : Bool) (rest : List Shape) (nz : Numbers) → Ready w c.functions nz
-    → Leads w nz (IsName n) c (shape (name_form n.text) line ∷ rest) rest F.declared_name give
+    → Leads w.opened w nz (IsName n) c (shape (name_form n.text) line ∷ rest) rest F.declared_name give
 unfolding F.declared_name
 name_lead n d w c line rest nz ready =
-    let p = (c.supply 0).0 in
+    exactly (let p = (c.supply 0).0 in
     let s : Shape = shape (name_form n.text) line in
     let there : Name = record { at = p; text = n.text } in
     from {d = c} {other = s ∷ rest} {n = expect Marks.identifier >>= λ text. unless p (option_or (Marks.barred text) (Marks.form_name text)) (give (record { at = p; text = text }))} refl
     (expected {c = c} {s = s} Marks.identifier n.text (λ text. unless p (option_or (Marks.barred text) (Marks.form_name text)) (give (record { at = p; text = text }))) d.form
-    (from (unbarred p (option_or (Marks.barred n.text) (Marks.form_name n.text)) (give there) (rest_of w (after c s) rest) d.no_bar) (stays {c = after c s} there give (record { same = refl }) ready)))
+    (from (unbarred p (option_or (Marks.barred n.text) (Marks.form_name n.text)) (give there) (rest_of w (after c s) rest) d.no_bar) (stays {c = after c s} there give (record { same = refl }) ready)))) (omega arith)
 
 -- ---- parameters
 
@@ -95,44 +95,44 @@ no_mark text d = by (name_form text) d.form
 
 module _ {all : World} where
   lead : (ns : List Name) (n : Name) (model so_far : List Name) (w : Frame all) (c : Spot) (rest : List Shape) (nz : Numbers) → AreDeclared (n ∷ ns) → AreNames model so_far → Ready w c.functions nz
-      → Leads w nz (AreNames (model ++ (n ∷ ns))) c (shape (name_form n.text) false ∷ (tokens_from false (tail ns) ++ rest)) rest (repeat F.more_parameters so_far) give
+      → Leads w.opened w nz (AreNames (model ++ (n ∷ ns))) c (shape (name_form n.text) false ∷ (tokens_from false (tail ns) ++ rest)) rest (repeat F.more_parameters so_far) give
   lead [] n model so_far w c rest nz named same ready =
-      let p = both _ _ named in
+      exactly (let p = both _ _ named in
       from (repeated.parameters so_far (rest_of w c (shape (name_form n.text) false ∷ shape (form_of (codes ")")) false ∷ rest)))
       (bind (name_lead n (is_declared n.text p.0) w c false (shape (form_of (codes ")")) false ∷ rest) nz ready) (λ x d is done.
       miss {c = d} Marks.comma _ _ right_parenthesis_no_comma (expected {c = d} {s = shape (form_of (codes ")")) false} Marks.right_parenthesis tt (λ _. give (so_far ++ (x ∷ []))) right_parenthesis_is
-      (stays (so_far ++ (x ∷ [])) give (one_more model so_far n x same is) done))))
+      (stays (so_far ++ (x ∷ [])) give (one_more model so_far n x same is) done))))) (omega arith)
   lead (next_n ∷ ns) n model so_far w c rest nz named same ready =
-      let p = both _ _ named in
+      exactly (let p = both _ _ named in
       let comma : Shape = shape (form_of (codes ",")) false in
       let more = shape (name_form next_n.text) false ∷ (tokens_from false (tail ns) ++ rest) in
       from (repeated.parameters so_far (rest_of w c (shape (name_form n.text) false ∷ comma ∷ more)))
       (bind (name_lead n (is_declared n.text p.0) w c false (comma ∷ more) nz ready) (λ x d is done.
       take {c = d} {s = comma} Marks.comma tt _ _ comma_is
       (become (λ b h. subst (λ ms. AreNames ms b) (append_assoc model (n ∷ []) (next_n ∷ ns)) h)
-      (lead ns next_n (model ++ (n ∷ [])) (so_far ++ (x ∷ [])) w (after d comma) rest nz p.1 (one_more model so_far n x same is) done))))
+      (lead ns next_n (model ++ (n ∷ [])) (so_far ++ (x ∷ [])) w (after d comma) rest nz p.1 (one_more model so_far n x same is) done))))) (omega arith)
 
   -- 13: names with commas between, up to the parenthesis
   pub parameters_lead : (ns : List Name) (w : Frame all) (c : Spot) (rest : List Shape) (nz : Numbers) → AreDeclared ns → Ready w c.functions nz
-      → Leads w nz (AreNames ns) c (tokens_from false (separated parameter ns ++ closing (codes ")")) ++ rest) rest F.parameters give
+      → Leads w.opened w nz (AreNames ns) c (tokens_from false (separated parameter ns ++ closing (codes ")")) ++ rest) rest F.parameters give
   unfolding F.parameters
-  parameters_lead [] w c rest nz named ready = take {c = c} {s = shape (form_of (codes ")")) false} Marks.right_parenthesis tt _ _ right_parenthesis_is (stays [] give (record { same = refl }) ready)
+  parameters_lead [] w c rest nz named ready = exactly (take {c = c} {s = shape (form_of (codes ")")) false} Marks.right_parenthesis tt _ _ right_parenthesis_is (stays [] give (record { same = refl }) ready)) (omega arith)
   parameters_lead (n ∷ ns) w c rest nz named ready =
-      let p = both _ _ named in
-      miss Marks.right_parenthesis _ _ (no_mark n.text (is_declared n.text p.0)) (lead ns n [] [] w c rest nz named (record { same = refl }) ready)
+      exactly (let p = both _ _ named in
+      miss Marks.right_parenthesis _ _ (no_mark n.text (is_declared n.text p.0)) (lead ns n [] [] w c rest nz named (record { same = refl }) ready)) (omega arith)
 
   -- 11.1.5: those of accessors
   pub no_parameter_lead : (ns : List Name) (w : Frame all) (c : Spot) (rest : List Shape) (nz : Numbers) → length ns ≡ 0 → Ready w c.functions nz
-      → Leads w nz (AreNames ns) c (tokens_from false (separated parameter ns ++ closing (codes ")")) ++ rest) rest (F.no_parameter grammar) give
+      → Leads w.opened w nz (AreNames ns) c (tokens_from false (separated parameter ns ++ closing (codes ")")) ++ rest) rest (F.no_parameter grammar) give
   no_parameter_lead [] w c rest nz none ready =
-      expected {c = c} {s = shape (form_of (codes ")")) false} Marks.right_parenthesis tt (λ _. give []) right_parenthesis_is (stays [] give (record { same = refl }) ready)
+      exactly (expected {c = c} {s = shape (form_of (codes ")")) false} Marks.right_parenthesis tt (λ _. give []) right_parenthesis_is (stays [] give (record { same = refl }) ready)) (omega arith)
   no_parameter_lead (n ∷ ns) w c rest nz none ready = absurd (omega (arith, none))
 
   pub one_parameter_lead : (ns : List Name) (w : Frame all) (c : Spot) (rest : List Shape) (nz : Numbers) → length ns ≡ 1 → AreDeclared ns → Ready w c.functions nz
-      → Leads w nz (AreNames ns) c (tokens_from false (separated parameter ns ++ closing (codes ")")) ++ rest) rest (F.one_parameter grammar) give
+      → Leads w.opened w nz (AreNames ns) c (tokens_from false (separated parameter ns ++ closing (codes ")")) ++ rest) rest (F.one_parameter grammar) give
   one_parameter_lead [] w c rest nz one named ready = absurd (omega (arith, one))
   one_parameter_lead (n ∷ []) w c rest nz one named ready =
-      let p = both _ _ named in
+      exactly (let p = both _ _ named in
       bind (name_lead n (is_declared n.text p.0) w c false (shape (form_of (codes ")")) false ∷ rest) nz ready) (λ x d is done.
-      expected {c = d} {s = shape (form_of (codes ")")) false} Marks.right_parenthesis tt (λ _. give (x ∷ [])) right_parenthesis_is (stays (x ∷ []) give (record { same = ap (λ z. z ∷ []) is.same }) done))
+      expected {c = d} {s = shape (form_of (codes ")")) false} Marks.right_parenthesis tt (λ _. give (x ∷ [])) right_parenthesis_is (stays (x ∷ []) give (record { same = ap (λ z. z ∷ []) is.same }) done))) (omega arith)
   one_parameter_lead (n ∷ m ∷ ns) w c rest nz one named ready = absurd (omega (arith, one))

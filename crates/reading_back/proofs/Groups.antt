@@ -1,5 +1,5 @@
 -- Expressions in parentheses, and where an expression of at least a level is taken.
-use Rattle.std.proofs.Common.{◌≡◌, ◌≤◌, ℕ, ◌+◌, Bool, true, false, List, ◌∷◌, ◌++◌, refl, ap, ◌∙◌, arith}
+use Rattle.std.proofs.Common.{◌≡◌, ◌≤◌, ℕ, suc, Bool, true, false, List, ◌∷◌, ◌++◌, refl, ap, ◌∙◌, arith}
 use Rattle.std.specs.Prelude.{◌&&◌, ◌||◌, not, nat_lt, codes, Some}
 use Rattle.std.proofs.lemmas.Bool.Decides.{nat_tests}
 use Rattle.js_tree.specs.Lexing.{reserved_word}
@@ -18,21 +18,23 @@ use Rattle.reading_back.proofs.Marks.{begins_none, begins_unary, begins_statemen
 use Rattle.reading_back.proofs.Flowing.{flows_last, flows_token, spread}
 use Rattle.reading_back.proofs.Joining.{first_none}
 use Rattle.reading_back.proofs.Ladder.{no_more_commas, from_operand}
-use Rattle.reading_back.proofs.Steps.{after, from, on, stays, chain, bind, expected, parted, opens, first_is}
+use Rattle.script_nesting.specs.Opened as depth
+use Rattle.script_nesting.specs.Opened.{Deep}
+use Rattle.reading_back.proofs.Steps.{exactly, after, from, on, stays, chain, bind, expected, parted, opens, first_is}
 
 -- ---- whole expressions
 
-module _ {all : World} {look : Look} {allows_in : Bool} {pieces : List Piece} {numbers : Numbers} {e : Expr} where
+module _ {all : World} {bound : ℕ} {look : Look} {allows_in : Bool} {pieces : List Piece} {numbers : Numbers} {e : Expr} where
   -- 11.14, where no comma stands behind
-  pub expression_reads : (p : Part all look allows_in pieces numbers e) → Read all p.bound pieces numbers (IsExpr e) (below allows_in 1) (P.expression_by grammar (grammar.assignment allows_in) allows_in) give
+  pub expression_reads : (p : Part all bound look allows_in pieces numbers e) → Read all bound pieces numbers (IsExpr e) (below allows_in 1) (P.expression_by grammar (grammar.assignment allows_in) allows_in) give
   unfolding P.expression_by
   expression_reads p = record {
-    at = λ w c line rest nb room ready fits.
-        from (ap (λ r. behind r (λ left. repeat (P.more_commas grammar allows_in) left)) (tied.assignment allows_in (rest_of w c (tokens_from line pieces ++ rest))))
-        (chain (p.commas.at w c line rest nb room ready (omega (arith, fits))) (λ x d is done.
+    at = λ w c line rest nb ready fits.
+        exactly (from (ap (λ r. behind r (λ left. repeat (P.more_commas grammar allows_in) left)) (tied.assignment allows_in (rest_of w c (tokens_from line pieces ++ rest))))
+        (chain (p.commas.at w c line rest nb ready (omega (arith, fits))) (λ x d is done.
         from (repeated.commas allows_in x (rest_of w d rest) ∙ no_more_commas allows_in (repeat (P.more_commas grammar allows_in)) x (rest_of w d rest)
         (first_is w Marks.comma d rest ∙ first_none Marks.comma allows_in 1 rest (omega arith) (λ t q. q.comma (omega arith)) fits))
-        (stays {c = d} x give is done)));
+        (stays {c = d} x give is done)))) (omega arith);
   }
 
 -- ---- parentheses (11.1.6)
@@ -66,39 +68,43 @@ group_first pieces = record {
   plain = λ l. refl;
 }
 
-module _ {all : World} {look : Look} {pieces : List Piece} {numbers : Numbers} {e : Expr} where
-  group_reads : (p : Part all look true pieces numbers e) → Read all (p.bound + 1) (grouped pieces) numbers (IsExpr e) anything (P.operand grammar) give
+module _ {all : World} {bound : ℕ} {look : Look} {pieces : List Piece} {numbers : Numbers} {e : Expr} where
+  group_reads : (p : Part all bound look true pieces numbers e) → Read all (suc bound) (grouped pieces) numbers (IsExpr e) anything (P.operand grammar) give
   unfolding P.group_behind
   group_reads p = record {
-    at = λ w c line rest nb room ready fits.
-        let d = after c (shape (form_of (codes "(")) line) in
+    at = λ w c line rest nb ready fits.
+        exactly (let d = after c (shape (form_of (codes "(")) line) in
         let inside = spread pieces (closing (codes ")")) p.flows false rest in
         from (operand_group w c line (tokens_from false (pieces ++ closing (codes ")")) ++ rest))
-        (on inside (parted (omega (arith, room)) (ap (λ zs. zs ++ (tokens_from false (closing (codes ")")) ++ rest)) (p.first.is false))
-        (bind ((expression_reads p).at (deeper w) d false _ nb (omega (arith, room)) (opens d.functions (numbers ++ nb) ready) (omega (arith, right_parenthesis_joins true)))
-        (λ x f is done. expected Marks.right_parenthesis tt (λ _. give x) right_parenthesis_is (stays x give is (done))))));
+        (on inside (parted (ap (λ zs. zs ++ (tokens_from false (closing (codes ")")) ++ rest)) (p.first.is false))
+        (bind ((expression_reads p).at (deeper w) d false _ nb (opens d.functions (numbers ++ nb) ready) (omega (arith, right_parenthesis_joins true)))
+        (λ x f is done. expected Marks.right_parenthesis tt (λ _. give x) right_parenthesis_is (stays x give is (done))))))) (omega arith);
   }
 
-  pub group : (allows_in : Bool) → Part all look true pieces numbers e → Part all group_look allows_in (grouped pieces) numbers e
-  group allows_in p = from_operand (flows_last (opening (codes "(") ++ pieces) (closing (codes ")")) (flows_token (codes ")") true _)) (group_first pieces) (p.bound + 1) (omega arith) (group_reads p)
+  pub group : (allows_in : Bool) → Part all bound look true pieces numbers e → Part all (suc bound) group_look allows_in (grouped pieces) numbers e
+  group allows_in p = from_operand (flows_last (opening (codes "(") ++ pieces) (closing (codes ")")) (flows_token (codes ")") true _)) (group_first pieces) (suc bound) (omega arith) (group_reads p)
 
 -- ---- where an expression of at least a level is taken
 
 at_least : (n m : ℕ) → nat_lt n m ≡ false → m ≤ n
 at_least n m e = grind (arith, nat_tests)
 
-module _ {all : World} {p : Printed} {numbers : Numbers} {e : Expr} (whole : Whole all p numbers e) where
+module _ {all : World} {p : Printed} {opened : Bool → ℕ} {numbers : Numbers} {e : Expr} (whole : Whole all p opened numbers e) where
+  -- as it is printed, and how many parts are open inside it
+  abbrev deep : Deep
+  deep = record { printed = p; opened = opened }
+
   in_group : (b : Bool) → (b && not true) ≡ false
   in_group true = refl
   in_group false = refl
 
-  grouped_fit : (wanted : ℕ) (starts allows_in : Bool) → wanted ≤ 17 → Fit all wanted starts allows_in (grouped (tokens p true)) numbers e
+  grouped_fit : (wanted : ℕ) (starts allows_in : Bool) → wanted ≤ 17 → Fit all (suc (opened true)) wanted starts allows_in (grouped (tokens p true)) numbers e
   grouped_fit wanted starts allows_in le = record { look = group_look; enough = le; plain = λ _. refl; part = group allows_in (whole.part true (in_group p.is_in)) }
 
-  pub fit : (wanted : ℕ) (allows_in : Bool) → wanted ≤ 17 → Fit all wanted (starts_at wanted p) allows_in (at wanted allows_in p) numbers e
+  pub fit : (wanted : ℕ) (allows_in : Bool) → wanted ≤ 17 → Fit all (depth.at wanted allows_in deep) wanted (starts_at wanted p) allows_in (at wanted allows_in p) numbers e
   fit wanted allows_in le = by (nat_lt p.level wanted) refl (p.is_in && not allows_in) refl
     where
-      by : (b : Bool) → nat_lt p.level wanted ≡ b → (c : Bool) → (p.is_in && not allows_in) ≡ c → Fit all wanted (not b && p.starts) allows_in (if_grouped (b || c) allows_in p) numbers e
+      by : (b : Bool) → nat_lt p.level wanted ≡ b → (c : Bool) → (p.is_in && not allows_in) ≡ c → Fit all (depth.if_grouped (b || c) allows_in deep) wanted (not b && p.starts) allows_in (if_grouped (b || c) allows_in p) numbers e
       by true loose c same = grouped_fit wanted (not true && p.starts) allows_in le
       by false loose true same = grouped_fit wanted (not false && p.starts) allows_in le
       by false loose false same = record {
@@ -112,11 +118,11 @@ module _ {all : World} {p : Printed} {numbers : Numbers} {e : Expr} (whole : Who
   not_in b e = rw e refl
 
   -- where a call or a member is taken that isn't barred for another cause; one that isn't grouped has its calls
-  pub fit_unless : (barred allows_in : Bool) → (f : Fit all 16 (starts_at 16 p) allows_in (if_grouped (nat_lt p.level 16 || barred) allows_in p) numbers e) × (p.calls ≡ false → f.look.calls ≡ false)
+  pub fit_unless : (barred allows_in : Bool) → (f : Fit all (depth.if_grouped (nat_lt p.level 16 || barred) allows_in deep) 16 (starts_at 16 p) allows_in (if_grouped (nat_lt p.level 16 || barred) allows_in p) numbers e) × (p.calls ≡ false → f.look.calls ≡ false)
   unfolding grouped_fit
   fit_unless barred allows_in = by (nat_lt p.level 16) refl barred
     where
-      by : (b : Bool) → nat_lt p.level 16 ≡ b → (c : Bool) → (f : Fit all 16 (not b && p.starts) allows_in (if_grouped (b || c) allows_in p) numbers e) × (p.calls ≡ false → f.look.calls ≡ false)
+      by : (b : Bool) → nat_lt p.level 16 ≡ b → (c : Bool) → (f : Fit all (depth.if_grouped (b || c) allows_in deep) 16 (not b && p.starts) allows_in (if_grouped (b || c) allows_in p) numbers e) × (p.calls ≡ false → f.look.calls ≡ false)
       by true loose c = (grouped_fit 16 (not true && p.starts) allows_in (omega arith), λ _. refl)
       by false loose true = (grouped_fit 16 (not false && p.starts) allows_in (omega arith), λ _. refl)
       by false loose false = (
@@ -130,11 +136,11 @@ module _ {all : World} {p : Printed} {numbers : Numbers} {e : Expr} (whole : Who
       )
 
   -- the callee of `new` has no call outside brackets
-  pub callee_fit : (allows_in : Bool) → (f : Fit all 16 (starts_at 16 p) allows_in (callee_of_new allows_in p) numbers e) × (f.look.calls ≡ false)
+  pub callee_fit : (allows_in : Bool) → (f : Fit all (depth.callee_of_new allows_in deep) 16 (starts_at 16 p) allows_in (callee_of_new allows_in p) numbers e) × (f.look.calls ≡ false)
   unfolding grouped_fit
   callee_fit allows_in = by (nat_lt p.level 16) refl p.calls refl
     where
-      by : (b : Bool) → nat_lt p.level 16 ≡ b → (c : Bool) → p.calls ≡ c → (f : Fit all 16 (not b && p.starts) allows_in (if_grouped (b || c) allows_in p) numbers e) × (f.look.calls ≡ false)
+      by : (b : Bool) → nat_lt p.level 16 ≡ b → (c : Bool) → p.calls ≡ c → (f : Fit all (depth.if_grouped (b || c) allows_in deep) 16 (not b && p.starts) allows_in (if_grouped (b || c) allows_in p) numbers e) × (f.look.calls ≡ false)
       by true loose c same = (grouped_fit 16 (not true && p.starts) allows_in (omega arith), refl)
       by false loose true same = (grouped_fit 16 (not false && p.starts) allows_in (omega arith), refl)
       by false loose false same = (

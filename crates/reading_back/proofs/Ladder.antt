@@ -18,7 +18,7 @@ use Rattle.script_text.specs.Pieces.{Piece}
 use Rattle.script_text.specs.Tokens.{Shape, shape, tokens_from}
 use Rattle.reading_back.proofs.Claims.{World, Frame, Spot, rest_of, Read, anything, below, Flows, First, Look, IsExpr, Part}
 use Rattle.reading_back.proofs.Marks.{begins_unary}
-use Rattle.reading_back.proofs.Steps.{from, stays, chain, bind, bind_on, first_is, next_none}
+use Rattle.reading_back.proofs.Steps.{exactly, from, stays, chain, bind, bind_on, first_is, next_none}
 use Rattle.reading_back.proofs.Joining.{first_none, no_operator}
 
 -- ---- nothing goes on
@@ -88,56 +88,56 @@ module _ {all : World} {bound : ℕ} {pieces : List Piece} {numbers : Numbers} {
   pub calls_of : Read all bound pieces numbers (IsExpr e) anything (P.operand grammar) give
       → Read all bound pieces numbers (IsExpr e) anything (P.left_hand_side grammar) (repeat (P.more_members grammar true))
   unfolding P.left_hand_side
-  calls_of h = record { at = λ w c line rest nb room ready fits. bind_on (repeat (P.more_members grammar true)) (h.at w c line rest nb room ready tt) }
+  calls_of h = record { at = λ w c line rest nb ready fits. bind_on (repeat (P.more_members grammar true)) (h.at w c line rest nb ready tt) }
 
   pub members_of : Read all bound pieces numbers (IsExpr e) anything (P.operand grammar) give
       → Read all bound pieces numbers (IsExpr e) anything (P.member grammar) (repeat (P.more_members grammar false))
   unfolding P.member
-  members_of h = record { at = λ w c line rest nb room ready fits. bind_on (repeat (P.more_members grammar false)) (h.at w c line rest nb room ready tt) }
+  members_of h = record { at = λ w c line rest nb ready fits. bind_on (repeat (P.more_members grammar false)) (h.at w c line rest nb ready tt) }
 
   pub left_hand_side_of : (allows_in : Bool) (level : ℕ) → level ≤ 16 → Read all bound pieces numbers (IsExpr e) anything (P.left_hand_side grammar) (repeat (P.more_members grammar true))
       → Read all bound pieces numbers (IsExpr e) (below allows_in level) (P.left_hand_side grammar) give
   left_hand_side_of allows_in level le h = record {
-    at = λ w c line rest nb room ready fits.
-        chain (h.at w c line rest nb room ready tt) (λ x d is done.
+    at = λ w c line rest nb ready fits.
+        exactly (chain (h.at w c line rest nb ready tt) (λ x d is done.
         let s = rest_of w d rest in
         from (repeated.members true x s ∙ no_more_members true (repeat (P.more_members grammar true)) x s
         (first_is w Marks.dot d rest ∙ first_none Marks.dot allows_in level rest le (λ t q. q.dot) fits)
         (first_is w Marks.left_bracket d rest ∙ first_none Marks.left_bracket allows_in level rest le (λ t q. q.left_bracket) fits)
         (first_is w Marks.left_parenthesis d rest ∙ first_none Marks.left_parenthesis allows_in level rest le (λ t q. q.left_parenthesis) fits))
-        (stays x give is done));
+        (stays x give is done))) (omega arith);
   }
 
   pub postfix_of : (allows_in : Bool) → Read all bound pieces numbers (IsExpr e) anything (P.left_hand_side grammar) (repeat (P.more_members grammar true))
       → Read all bound pieces numbers (IsExpr e) (below allows_in 14) (E.postfix grammar) give
   unfolding E.postfix
   postfix_of allows_in h = record {
-    at = λ w c line rest nb room ready fits.
-        bind ((left_hand_side_of allows_in 14 (omega arith) h).at w c line rest nb room ready fits) (λ x d is done.
+    at = λ w c line rest nb ready fits.
+        exactly (bind ((left_hand_side_of allows_in 14 (omega arith) h).at w c line rest nb ready fits) (λ x d is done.
         from (no_postfix x (rest_of w d rest) (first_is w Operators.postfix_operator d rest ∙ first_none Operators.postfix_operator allows_in 14 rest (omega arith) (λ t q. q.postfix (omega arith)) fits))
-        (stays x give is done));
+        (stays x give is done))) (omega arith);
   }
 
   pub unary_of : {look : Look} (allows_in : Bool) (first : First look pieces) → 15 ≤ look.level → Read all bound pieces numbers (IsExpr e) (below allows_in 14) (E.postfix grammar) give
       → Read all bound pieces numbers (IsExpr e) (below allows_in 14) (E.unary grammar) give
-  unary_of allows_in first le h = record { at = λ w c line rest nb room ready fits. from (sign_free first le w c line rest) (h.at w c line rest nb room ready fits) }
+  unary_of allows_in first le h = record { at = λ w c line rest nb ready fits. from (sign_free first le w c line rest) (h.at w c line rest nb ready fits) }
 
   pub climb_of : (allows_in : Bool) (level n : ℕ) → 13 ≤ level → Read all bound pieces numbers (IsExpr e) (below allows_in 14) (E.unary grammar) give
       → Read all bound pieces numbers (IsExpr e) (below allows_in (suc (min 13 level)))
       (E.unary grammar >>= climbing.rest (E.unary grammar) (drop n (climbing.levels allows_in))) (climbing.rest (E.unary grammar) (drop n (climbing.levels allows_in)))
   climb_of allows_in level n le h = record {
-    at = λ w c line rest nb room ready fits.
-        bind_on (climbing.rest (E.unary grammar) (drop n (climbing.levels allows_in))) (h.at w c line rest nb room ready (omega (arith, fits)));
+    at = λ w c line rest nb ready fits.
+        exactly (bind_on (climbing.rest (E.unary grammar) (drop n (climbing.levels allows_in))) (h.at w c line rest nb ready (omega (arith, fits)))) (omega arith);
   }
 
   pub logical_or_of : (allows_in : Bool) (level : ℕ) → 4 ≤ level
       → Read all bound pieces numbers (IsExpr e) (below allows_in (suc (min 13 level))) (E.unary grammar >>= climbing.rest (E.unary grammar) (drop 0 (climbing.levels allows_in))) (climbing.rest (E.unary grammar) (drop 0 (climbing.levels allows_in)))
       → Read all bound pieces numbers (IsExpr e) (below allows_in 4) (E.logical_or grammar allows_in) give
   logical_or_of allows_in level le h = record {
-    at = λ w c line rest nb room ready fits.
-        from (climbs.begins allows_in (rest_of w c (tokens_from line pieces ++ rest)))
-        (chain (h.at w c line rest nb room ready (omega (arith, fits, le))) (λ x d is done.
-        from (climbs.ends allows_in 0 x (rest_of w d rest) (first_is w _ d rest ∙ no_operator allows_in 0 4 rest (omega arith) (omega arith) fits)) (stays {c = d} x give is done)));
+    at = λ w c line rest nb ready fits.
+        exactly (from (climbs.begins allows_in (rest_of w c (tokens_from line pieces ++ rest)))
+        (chain (h.at w c line rest nb ready (omega (arith, fits, le))) (λ x d is done.
+        from (climbs.ends allows_in 0 x (rest_of w d rest) (first_is w _ d rest ∙ no_operator allows_in 0 4 rest (omega arith) (omega arith) fits)) (stays {c = d} x give is done)))) (omega arith);
   }
 
   pub conditional_of : (allows_in : Bool) (level : ℕ) → 4 ≤ level
@@ -145,34 +145,34 @@ module _ {all : World} {bound : ℕ} {pieces : List Piece} {numbers : Numbers} {
       → Read all bound pieces numbers (IsExpr e) (below allows_in 3) (E.conditional grammar allows_in) give
   unfolding E.conditional
   conditional_of allows_in level le h = record {
-    at = λ w c line rest nb room ready fits.
-        bind ((logical_or_of allows_in level le h).at w c line rest nb room ready (omega (arith, fits))) (λ x d is done.
+    at = λ w c line rest nb ready fits.
+        exactly (bind ((logical_or_of allows_in level le h).at w c line rest nb ready (omega (arith, fits))) (λ x d is done.
         from (next_none Marks.question _ _ (rest_of w d rest) (first_is w Marks.question d rest ∙ first_none Marks.question allows_in 3 rest (omega arith) (λ t q. q.question (omega arith)) fits))
-        (stays {c = d} x give is done));
+        (stays {c = d} x give is done))) (omega arith);
   }
 
   pub looser : {level : ℕ} {m : Reading Expr} (allows_in : Bool) (other : ℕ) → other ≤ level → Read all bound pieces numbers (IsExpr e) (below allows_in level) m give → Read all bound pieces numbers (IsExpr e) (below allows_in other) m give
-  looser allows_in other le h = record { at = λ w c line rest nb room ready fits. h.at w c line rest nb room ready (omega (arith, fits, le)) }
+  looser allows_in other le h = record { at = λ w c line rest nb ready fits. h.at w c line rest nb ready (omega (arith, fits, le)) }
 
   pub assignment_of : (allows_in : Bool) → Read all bound pieces numbers (IsExpr e) (below allows_in 2) (E.conditional grammar allows_in) give
       → Read all bound pieces numbers (IsExpr e) (below allows_in 2) (E.assignment grammar allows_in) give
   unfolding E.assignment
   assignment_of allows_in h = record {
-    at = λ w c line rest nb room ready fits.
-        bind (h.at w c line rest nb room ready fits) (λ x d is done.
+    at = λ w c line rest nb ready fits.
+        exactly (bind (h.at w c line rest nb ready fits) (λ x d is done.
         from (no_assignment allows_in x (rest_of w d rest) (first_is w Operators.assignment_operator d rest ∙ first_none Operators.assignment_operator allows_in 2 rest (omega arith) (λ t q. q.assignment (omega arith)) fits))
-        (stays x give is done));
+        (stays x give is done))) (omega arith);
   }
 
   pub commas_of : (allows_in : Bool) → Read all bound pieces numbers (IsExpr e) (below allows_in 2) (E.assignment grammar allows_in) give
       → Read all bound pieces numbers (IsExpr e) (below allows_in 2) (P.expression_by grammar (E.assignment grammar allows_in) allows_in) (repeat (P.more_commas grammar allows_in))
   unfolding P.expression_by
-  commas_of allows_in h = record { at = λ w c line rest nb room ready fits. bind_on (repeat (P.more_commas grammar allows_in)) (h.at w c line rest nb room ready fits) }
+  commas_of allows_in h = record { at = λ w c line rest nb ready fits. bind_on (repeat (P.more_commas grammar allows_in)) (h.at w c line rest nb ready fits) }
 
 -- ---- what is read in one production is read in all looser ones
 
 module _ {all : World} {look : Look} {allows_in : Bool} {pieces : List Piece} {numbers : Numbers} {e : Expr} (flows : Flows pieces) (first : First look pieces) (bound : ℕ) where
-  pub from_operand : 15 ≤ look.level → Read all bound pieces numbers (IsExpr e) anything (P.operand grammar) give → Part all look allows_in pieces numbers e
+  pub from_operand : 15 ≤ look.level → Read all bound pieces numbers (IsExpr e) anything (P.operand grammar) give → Part all bound look allows_in pieces numbers e
   from_operand le o =
       let c : Read all bound pieces numbers (IsExpr e) anything (P.left_hand_side grammar) (repeat (P.more_members grammar true)) = calls_of o in
       let u : Read all bound pieces numbers (IsExpr e) (below allows_in 14) (E.unary grammar) give = unary_of allows_in first le (postfix_of allows_in c) in
@@ -182,7 +182,6 @@ module _ {all : World} {look : Look} {allows_in : Bool} {pieces : List Piece} {n
       record {
         flows = flows;
         first = first;
-        bound = bound;
         operand = λ l. o;
         calls = λ l. c;
         members = λ l e. members_of o;
@@ -193,7 +192,7 @@ module _ {all : World} {look : Look} {allows_in : Bool} {pieces : List Piece} {n
         commas = commas_of allows_in a;
       }
 
-  pub from_calls : look.level ≡ 16 → Read all bound pieces numbers (IsExpr e) anything (P.left_hand_side grammar) (repeat (P.more_members grammar true)) → (look.calls ≡ false → Read all bound pieces numbers (IsExpr e) anything (P.member grammar) (repeat (P.more_members grammar false))) → Part all look allows_in pieces numbers e
+  pub from_calls : look.level ≡ 16 → Read all bound pieces numbers (IsExpr e) anything (P.left_hand_side grammar) (repeat (P.more_members grammar true)) → (look.calls ≡ false → Read all bound pieces numbers (IsExpr e) anything (P.member grammar) (repeat (P.more_members grammar false))) → Part all bound look allows_in pieces numbers e
   from_calls le c m =
       let u : Read all bound pieces numbers (IsExpr e) (below allows_in 14) (E.unary grammar) give = unary_of allows_in first (omega (arith, le)) (postfix_of allows_in c) in
       let k : ((n : ℕ) → n + 4 ≤ look.level → Read all bound pieces numbers (IsExpr e) (below allows_in (suc (min 13 look.level))) (E.unary grammar >>= climbing.rest (E.unary grammar) (drop n (climbing.levels allows_in))) (climbing.rest (E.unary grammar) (drop n (climbing.levels allows_in)))) = λ n l. climb_of allows_in look.level n (omega (arith, le)) u in
@@ -202,7 +201,6 @@ module _ {all : World} {look : Look} {allows_in : Bool} {pieces : List Piece} {n
       record {
         flows = flows;
         first = first;
-        bound = bound;
         operand = λ l. absurd (omega (arith, le, l));
         calls = λ l. c;
         members = λ l e. m e;
@@ -213,7 +211,7 @@ module _ {all : World} {look : Look} {allows_in : Bool} {pieces : List Piece} {n
         commas = commas_of allows_in a;
       }
 
-  pub from_postfix : look.level ≡ 15 → Read all bound pieces numbers (IsExpr e) (below allows_in 14) (E.postfix grammar) give → Part all look allows_in pieces numbers e
+  pub from_postfix : look.level ≡ 15 → Read all bound pieces numbers (IsExpr e) (below allows_in 14) (E.postfix grammar) give → Part all bound look allows_in pieces numbers e
   from_postfix le p =
       let u : Read all bound pieces numbers (IsExpr e) (below allows_in 14) (E.unary grammar) give = unary_of allows_in first (omega (arith, le)) p in
       let k : ((n : ℕ) → n + 4 ≤ look.level → Read all bound pieces numbers (IsExpr e) (below allows_in (suc (min 13 look.level))) (E.unary grammar >>= climbing.rest (E.unary grammar) (drop n (climbing.levels allows_in))) (climbing.rest (E.unary grammar) (drop n (climbing.levels allows_in)))) = λ n l. climb_of allows_in look.level n (omega (arith, le)) u in
@@ -222,7 +220,6 @@ module _ {all : World} {look : Look} {allows_in : Bool} {pieces : List Piece} {n
       record {
         flows = flows;
         first = first;
-        bound = bound;
         operand = λ l. absurd (omega (arith, le, l));
         calls = λ l. absurd (omega (arith, le, l));
         members = λ l e. absurd (omega (arith, le, l));
@@ -233,7 +230,7 @@ module _ {all : World} {look : Look} {allows_in : Bool} {pieces : List Piece} {n
         commas = commas_of allows_in a;
       }
 
-  pub from_unary : look.level ≡ 14 → Read all bound pieces numbers (IsExpr e) (below allows_in 14) (E.unary grammar) give → Part all look allows_in pieces numbers e
+  pub from_unary : look.level ≡ 14 → Read all bound pieces numbers (IsExpr e) (below allows_in 14) (E.unary grammar) give → Part all bound look allows_in pieces numbers e
   from_unary le u =
       let k : ((n : ℕ) → n + 4 ≤ look.level → Read all bound pieces numbers (IsExpr e) (below allows_in (suc (min 13 look.level))) (E.unary grammar >>= climbing.rest (E.unary grammar) (drop n (climbing.levels allows_in))) (climbing.rest (E.unary grammar) (drop n (climbing.levels allows_in)))) = λ n l. climb_of allows_in look.level n (omega (arith, le)) u in
       let d : Read all bound pieces numbers (IsExpr e) (below allows_in 2) (E.conditional grammar allows_in) give = looser allows_in 2 (omega arith) (conditional_of allows_in look.level (omega (arith, le)) (k 0 (omega (arith, le)))) in
@@ -241,7 +238,6 @@ module _ {all : World} {look : Look} {allows_in : Bool} {pieces : List Piece} {n
       record {
         flows = flows;
         first = first;
-        bound = bound;
         operand = λ l. absurd (omega (arith, le, l));
         calls = λ l. absurd (omega (arith, le, l));
         members = λ l e. absurd (omega (arith, le, l));
@@ -252,14 +248,13 @@ module _ {all : World} {look : Look} {allows_in : Bool} {pieces : List Piece} {n
         commas = commas_of allows_in a;
       }
 
-  pub from_climb : look.level ≤ 13 → 4 ≤ look.level → ((n : ℕ) → n + 4 ≤ look.level → Read all bound pieces numbers (IsExpr e) (below allows_in (suc (min 13 look.level))) (E.unary grammar >>= climbing.rest (E.unary grammar) (drop n (climbing.levels allows_in))) (climbing.rest (E.unary grammar) (drop n (climbing.levels allows_in)))) → Part all look allows_in pieces numbers e
+  pub from_climb : look.level ≤ 13 → 4 ≤ look.level → ((n : ℕ) → n + 4 ≤ look.level → Read all bound pieces numbers (IsExpr e) (below allows_in (suc (min 13 look.level))) (E.unary grammar >>= climbing.rest (E.unary grammar) (drop n (climbing.levels allows_in))) (climbing.rest (E.unary grammar) (drop n (climbing.levels allows_in)))) → Part all bound look allows_in pieces numbers e
   from_climb le at_least k =
       let d : Read all bound pieces numbers (IsExpr e) (below allows_in 2) (E.conditional grammar allows_in) give = looser allows_in 2 (omega arith) (conditional_of allows_in look.level at_least (k 0 (omega (arith, at_least)))) in
       let a : Read all bound pieces numbers (IsExpr e) (below allows_in 2) (E.assignment grammar allows_in) give = assignment_of allows_in d in
       record {
         flows = flows;
         first = first;
-        bound = bound;
         operand = λ l. absurd (omega (arith, le, l));
         calls = λ l. absurd (omega (arith, le, l));
         members = λ l e. absurd (omega (arith, le, l));
@@ -270,13 +265,12 @@ module _ {all : World} {look : Look} {allows_in : Bool} {pieces : List Piece} {n
         commas = commas_of allows_in a;
       }
 
-  pub from_conditional : look.level ≤ 3 → Read all bound pieces numbers (IsExpr e) (below allows_in 2) (E.conditional grammar allows_in) give → Part all look allows_in pieces numbers e
+  pub from_conditional : look.level ≤ 3 → Read all bound pieces numbers (IsExpr e) (below allows_in 2) (E.conditional grammar allows_in) give → Part all bound look allows_in pieces numbers e
   from_conditional le d =
       let a : Read all bound pieces numbers (IsExpr e) (below allows_in 2) (E.assignment grammar allows_in) give = assignment_of allows_in d in
       record {
         flows = flows;
         first = first;
-        bound = bound;
         operand = λ l. absurd (omega (arith, le, l));
         calls = λ l. absurd (omega (arith, le, l));
         members = λ l e. absurd (omega (arith, le, l));
@@ -287,12 +281,11 @@ module _ {all : World} {look : Look} {allows_in : Bool} {pieces : List Piece} {n
         commas = commas_of allows_in a;
       }
 
-  pub from_assignment : look.level ≤ 2 → Read all bound pieces numbers (IsExpr e) (below allows_in 2) (E.assignment grammar allows_in) give → Part all look allows_in pieces numbers e
+  pub from_assignment : look.level ≤ 2 → Read all bound pieces numbers (IsExpr e) (below allows_in 2) (E.assignment grammar allows_in) give → Part all bound look allows_in pieces numbers e
   from_assignment le a =
       record {
         flows = flows;
         first = first;
-        bound = bound;
         operand = λ l. absurd (omega (arith, le, l));
         calls = λ l. absurd (omega (arith, le, l));
         members = λ l e. absurd (omega (arith, le, l));
@@ -303,12 +296,11 @@ module _ {all : World} {look : Look} {allows_in : Bool} {pieces : List Piece} {n
         commas = commas_of allows_in a;
       }
 
-  pub from_commas : look.level ≤ 1 → Read all bound pieces numbers (IsExpr e) (below allows_in 2) (P.expression_by grammar (E.assignment grammar allows_in) allows_in) (repeat (P.more_commas grammar allows_in)) → Part all look allows_in pieces numbers e
+  pub from_commas : look.level ≤ 1 → Read all bound pieces numbers (IsExpr e) (below allows_in 2) (P.expression_by grammar (E.assignment grammar allows_in) allows_in) (repeat (P.more_commas grammar allows_in)) → Part all bound look allows_in pieces numbers e
   from_commas le c =
       record {
         flows = flows;
         first = first;
-        bound = bound;
         operand = λ l. absurd (omega (arith, le, l));
         calls = λ l. absurd (omega (arith, le, l));
         members = λ l e. absurd (omega (arith, le, l));

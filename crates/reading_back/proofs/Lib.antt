@@ -1,6 +1,9 @@
 pub mod Marks
+pub mod Tests
 pub mod Claims
 pub mod StatementClaims
+pub mod SameStatements
+pub mod Passing
 pub mod Steps
 pub mod Joining
 pub mod Ladder

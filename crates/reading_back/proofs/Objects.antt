@@ -1,5 +1,5 @@
 -- Object literals (11.1.5).
-use Rattle.std.proofs.Common.{◌≡◌, ◌≤◌, ℕ, ◌+◌, Bool, true, false, List, [], ◌∷◌, ◌++◌, map, refl, ap, sym, ◌∙◌, subst, arith, append_assoc}
+use Rattle.std.proofs.Common.{◌≡◌, ℕ, ◌+◌, Bool, true, false, List, [], ◌∷◌, ◌++◌, map, refl, ap, sym, ◌∙◌, subst, arith, append_assoc, max}
 use Rattle.std.specs.Prelude.{codes, Some, None}
 use Rattle.std.proofs.lemmas.List.{map-append}
 use Rattle.js_value.specs.declared.place.Place.{Place}
@@ -17,14 +17,15 @@ use Rattle.js_grammar.specs.Rest.{◌>>◌, give, next, expect, repeat}
 use Rattle.js_grammar.proofs.Laws.{repeated}
 use Rattle.script_text.specs.Pieces.{Piece, opening, closing, separated, behind_commas}
 use Rattle.script_text.specs.Tokens.{Shape, shape, form_of, tokens_from}
-use Rattle.reading_back.proofs.Claims.{World, Frame, Spot, rest_of, Leads, Ready, Read, anything, below, First, IsExpr, IsField, Part, FieldPart}
+use Rattle.reading_back.proofs.Claims.{Low, World, Frame, Spot, rest_of, Leads, Ready, Read, anything, below, First, IsExpr, IsField, Part, FieldPart}
 use Rattle.reading_back.proofs.Marks.{joins, begins_none, begins_unary, begins_statement, begins_other}
 use Rattle.reading_back.specs.Unplaced as unplaced
 use Rattle.reading_back.proofs.Flowing.{flows_last, flows_token, spread}
 use Rattle.reading_back.proofs.Ladder.{from_operand}
 use Rattle.reading_back.proofs.LooseOperators.{comma_is, comma_joins}
 use Rattle.reading_back.proofs.Same.{same_layers}
-use Rattle.reading_back.proofs.Steps.{after, first_of_shapes, from, on, become, stays, bind, take, miss, expected, finishes}
+use Rattle.script_nesting.specs.Highest.{highest}
+use Rattle.reading_back.proofs.Steps.{exactly, after, first_of_shapes, from, on, become, stays, bind, take, miss, expected, finishes}
 use Rattle.reading_back.proofs.TwoOperands.{ready_behind}
 use Rattle.reading_back.proofs.Words.{word_look}
 
@@ -44,7 +45,8 @@ pub record Property (all : World) : Type 0 where
   pub pieces : List Piece
   pub numbers : Numbers
   pub tree : Field
-  pub part : FieldPart all pieces numbers tree
+  pub bound : ℕ
+  pub part : FieldPart all bound pieces numbers tree
 
 right_brace_is : Marks.right_brace (form_of (codes "}")) ≡ Some tt
 unfolding form_of reserved_word
@@ -61,8 +63,7 @@ right_brace_joins false = refl
 
 module _ {all : World} where
   abbrev pub bounds : List (Property all) → ℕ
-  bounds [] = 0
-  bounds (x ∷ xs) = x.part.bound + bounds xs
+  bounds xs = highest (map (λ (x : Property all). x.bound) xs)
 
   abbrev pub pieces_all : List (Property all) → List (List Piece)
   pieces_all xs = map (λ (x : Property all). x.pieces) xs
@@ -82,44 +83,44 @@ module _ {all : World} where
 
   abbrev LeadsOn : List (Property all) → Type 0
   LeadsOn xs =
-      (x : Property all) (model so_far : List Field) (w : Frame all) (c : Spot) (rest : List Shape) (nz : Numbers) → AreFields model so_far → w.opened + bounds (x ∷ xs) ≤ w.limit
+      (x : Property all) (model so_far : List Field) (w : Frame all) (c : Spot) (rest : List Shape) (nz : Numbers) → AreFields model so_far
       → Ready w c.functions (numbers_all (x ∷ xs) ++ nz)
-      → Leads w nz (AreFields (model ++ trees (x ∷ xs))) c (tokens_from false (x.pieces ++ tail xs) ++ rest) rest (repeat (P.more_fields grammar) so_far) give
+      → Leads (w.opened + bounds (x ∷ xs)) w nz (AreFields (model ++ trees (x ∷ xs))) c (tokens_from false (x.pieces ++ tail xs) ++ rest) rest (repeat (P.more_fields grammar) so_far) give
 
   -- a property, and then what follows it
-  one : (x : Property all) (xs : List (Property all)) (so_far : List Field) (w : Frame all) (c : Spot) (rest middle : List Shape) (nz : Numbers) {Js : List Field → Type 0} → w.opened + x.part.bound ≤ w.limit
+  one : (x : Property all) (xs : List (Property all)) (so_far : List Field) (w : Frame all) (c : Spot) (rest middle : List Shape) (nz : Numbers) {Js : List Field → Type 0} {l : ℕ}
       → tokens_from false (tail xs) ++ rest ≡ middle → below true 2 middle → Ready w c.functions (x.numbers ++ (numbers_all xs ++ nz))
-      → ((y : Field) (d : Spot) → IsField x.tree y → Ready w d.functions (numbers_all xs ++ nz) → Leads w nz Js d middle rest
+      → ((y : Field) (d : Spot) → IsField x.tree y → Ready w d.functions (numbers_all xs ++ nz) → Leads l w nz Js d middle rest
       (next Marks.comma (λ _. repeat (P.more_fields grammar) (so_far ++ (y ∷ []))) (expect Marks.right_brace >> give (so_far ++ (y ∷ [])))) give)
-      → Leads w nz Js c (tokens_from false (x.pieces ++ tail xs) ++ rest) rest (repeat (P.more_fields grammar) so_far) give
-  one x xs so_far w c rest middle nz room is fits ready go =
+      → Leads (max (w.opened + x.bound) l) w nz Js c (tokens_from false (x.pieces ++ tail xs) ++ rest) rest (repeat (P.more_fields grammar) so_far) give
+  one x xs so_far w c rest middle nz is fits ready go =
       let p = x.part in
       on (spread x.pieces (tail xs) p.flows false rest ∙ ap (λ zs. tokens_from false x.pieces ++ zs) is)
       (from (repeated.fields so_far (rest_of w c (tokens_from false x.pieces ++ middle)))
       (miss Marks.right_brace _ _ (ap (first_of_shapes Marks.right_brace) (ap (λ zs. zs ++ middle) (p.is false)) ∙ p.begins)
-      (bind (p.reads.at w c false middle (numbers_all xs ++ nz) room ready fits) go)))
+      (bind (p.reads.at w c false middle (numbers_all xs ++ nz) ready fits) go)))
 
   lead : (xs : List (Property all)) → LeadsOn xs
-  lead [] x model so_far w c rest nz same room ready =
-      one x [] so_far w c rest (shape (form_of (codes "}")) false ∷ rest) nz (omega (arith, room)) refl (omega (arith, right_brace_joins true)) (ready_behind c.functions x.numbers [] nz ready) (λ y d is done.
+  lead [] x model so_far w c rest nz same ready =
+      exactly (one x [] so_far w c rest (shape (form_of (codes "}")) false ∷ rest) nz refl (omega (arith, right_brace_joins true)) (ready_behind c.functions x.numbers [] nz ready) (λ y d is done.
       miss Marks.comma _ _ right_brace_no_comma (expected Marks.right_brace tt (λ _. give (so_far ++ (y ∷ []))) right_brace_is
-      (stays (so_far ++ (y ∷ [])) give (one_more model so_far x.tree y same is) done)))
-  lead (next_x ∷ xs) x model so_far w c rest nz same room ready =
-      one x (next_x ∷ xs) so_far w c rest (shape (form_of (codes ",")) false ∷ (tokens_from false (next_x.pieces ++ tail xs) ++ rest)) nz (omega (arith, room))
+      (stays (so_far ++ (y ∷ [])) give (one_more model so_far x.tree y same is) done)))) (omega arith)
+  lead (next_x ∷ xs) x model so_far w c rest nz same ready =
+      exactly (one x (next_x ∷ xs) so_far w c rest (shape (form_of (codes ",")) false ∷ (tokens_from false (next_x.pieces ++ tail xs) ++ rest)) nz
       (ap (λ ps. shape (form_of (codes ",")) false ∷ (tokens_from false ps ++ rest)) (append_assoc next_x.pieces (behind xs) (closing (codes "}"))))
       (omega (arith, comma_joins true)) (ready_behind c.functions x.numbers (numbers_all (next_x ∷ xs)) nz ready) (λ y d is done.
       take Marks.comma tt _ _ comma_is
       (become (λ b h. subst (λ fs. AreFields fs b) (append_assoc model (x.tree ∷ []) (trees (next_x ∷ xs))) h)
-      (lead xs next_x (model ++ (x.tree ∷ [])) (so_far ++ (y ∷ [])) w (after d (shape (form_of (codes ",")) false)) rest nz (one_more model so_far x.tree y same is) (omega (arith, room)) done)))
+      (lead xs next_x (model ++ (x.tree ∷ [])) (so_far ++ (y ∷ [])) w (after d (shape (form_of (codes ",")) false)) rest nz (one_more model so_far x.tree y same is) done)))) (omega arith)
 
-  fields_lead : (xs : List (Property all)) (w : Frame all) (c : Spot) (rest : List Shape) (nz : Numbers) → w.opened + bounds xs ≤ w.limit → Ready w c.functions (numbers_all xs ++ nz)
-      → Leads w nz (AreFields (trees xs)) c (tokens_from false (separated (λ f. f) (pieces_all xs) ++ closing (codes "}")) ++ rest) rest (repeat (P.more_fields grammar) []) give
-  fields_lead [] w c rest nz room ready =
-      from (repeated.fields [] (rest_of w c (shape (form_of (codes "}")) false ∷ rest)))
-      (take {c = c} {s = shape (form_of (codes "}")) false} Marks.right_brace tt _ _ right_brace_is (stays [] give (record { same = refl }) ready))
-  fields_lead (x ∷ xs) w c rest nz room ready =
-      on (ap (λ ps. tokens_from false ps ++ rest) (append_assoc x.pieces (behind xs) (closing (codes "}"))))
-      (lead xs x [] [] w c rest nz (record { same = refl }) room ready)
+  fields_lead : (xs : List (Property all)) (w : Frame all) (c : Spot) (rest : List Shape) (nz : Numbers) → Ready w c.functions (numbers_all xs ++ nz)
+      → Leads (w.opened + bounds xs) w nz (AreFields (trees xs)) c (tokens_from false (separated (λ f. f) (pieces_all xs) ++ closing (codes "}")) ++ rest) rest (repeat (P.more_fields grammar) []) give
+  fields_lead [] w c rest nz ready =
+      exactly (from (repeated.fields [] (rest_of w c (shape (form_of (codes "}")) false ∷ rest)))
+      (take {c = c} {s = shape (form_of (codes "}")) false} Marks.right_brace tt _ _ right_brace_is (stays [] give (record { same = refl }) ready))) (omega arith)
+  fields_lead (x ∷ xs) w c rest nz ready =
+      exactly (on (ap (λ ps. tokens_from false ps ++ rest) (append_assoc x.pieces (behind xs) (closing (codes "}"))))
+      (lead xs x [] [] w c rest nz (record { same = refl }) ready)) (omega arith)
 
 -- ---- the literal
 
@@ -143,20 +144,20 @@ object_first fields = record {
   plain = λ s. absurd (cc);
 }
 
-module _ {all : World} (at : Place) (form : ExprForm) (xs : List (Property all)) where
+module _ {all : World} (at : Place) (form : ExprForm) (low : Low all (record { at = at; form = form })) (xs : List (Property all)) where
   object_reads : out-ExprForm form ≡ ExprForm-F.ObjectLit (trees xs)
       → Read all (bounds xs) (object_pieces (pieces_all xs)) (numbers_all xs) (IsExpr (record { at = at; form = form })) anything (P.operand grammar) give
   unfolding P.object_behind
   object_reads is = record {
-    at = λ w c line rest nz room ready fits.
-        let p = (c.supply 0).0 in
+    at = λ w c line rest nz ready fits.
+        exactly (let p = (c.supply 0).0 in
         let d = after c (shape (form_of (codes "{")) line) in
         from {d = d} (operand_object w c line (tokens_from false (separated (λ f. f) (pieces_all xs) ++ closing (codes "}")) ++ rest))
-        (bind (fields_lead xs w d rest nz room ready) (λ ys f are done.
-        finishes {c = f} p (e.ObjectLit ys) (same_layers p at (e.ObjectLit ys) form _ _ (e.outs-ObjectLit ys) is (ap ExprForm-F.ObjectLit are.same)) done));
+        (bind (fields_lead xs w d rest nz ready) (λ ys f are done.
+        finishes {c = f} p (e.ObjectLit ys) low (same_layers p at (e.ObjectLit ys) form _ _ (e.outs-ObjectLit ys) is (ap ExprForm-F.ObjectLit are.same)) done))) (omega arith);
   }
 
   pub object_part : {allows_in : Bool} → out-ExprForm form ≡ ExprForm-F.ObjectLit (trees xs)
-      → Part all (word_look true) allows_in (object_pieces (pieces_all xs)) (numbers_all xs) (record { at = at; form = form })
+      → Part all (bounds xs) (word_look true) allows_in (object_pieces (pieces_all xs)) (numbers_all xs) (record { at = at; form = form })
   object_part is = from_operand (flows_last (opening (codes "{") ++ separated (λ f. f) (pieces_all xs)) (closing (codes "}")) (flows_token (codes "}") true _))
       (object_first (pieces_all xs)) (bounds xs) (omega arith) (object_reads is)

@@ -1,5 +1,5 @@
 -- Operators before and behind their operand (11.3, 11.4).
-use Rattle.std.proofs.Common.{◌≡◌, ℕ, ◌+◌, Bool, true, false, cond, List, ◌∷◌, ◌++◌, refl, ap, ◌∙◌, arith}
+use Rattle.std.proofs.Common.{◌≡◌, ℕ, Bool, true, false, cond, List, ◌∷◌, ◌++◌, refl, ap, ◌∙◌, arith, suc}
 use Rattle.std.specs.Prelude.{◌&&◌, codes, Some, None}
 use Rattle.js_value.specs.declared.operator.UnaryOp.{UnaryOp}
 use Rattle.js_value.specs.declared.operator.UnaryOp.TheVariants as unary
@@ -24,23 +24,23 @@ use Rattle.js_grammar.proofs.Laws.{tied}
 use Rattle.script_text.specs.Expressions.{unary_operator}
 use Rattle.script_text.specs.Pieces.{Piece, closing, prefix}
 use Rattle.script_text.specs.Tokens.{Shape, shape, form_of, tokens_from}
-use Rattle.reading_back.proofs.Claims.{World, Frame, Spot, rest_of, deeper, Read, below, First, IsExpr, Part, Fit}
+use Rattle.reading_back.proofs.Claims.{Low, World, Frame, Spot, rest_of, deeper, Read, below, First, IsExpr, Part, Fit}
 use Rattle.reading_back.proofs.Marks.{joins, begins_none, begins_statement, begins_other}
 use Rattle.reading_back.proofs.Flowing.{flows_last, flows_token, spread}
 use Rattle.reading_back.proofs.Ladder.{behind_operand, left_hand_side_of, from_unary, from_postfix}
 use Rattle.reading_back.proofs.Same.{same_layers, same_name, same_target}
-use Rattle.reading_back.proofs.Steps.{after, from, on, bind, parted, opens, finishes, next_none, next_some}
+use Rattle.reading_back.proofs.Steps.{exactly, after, from, on, bind, parted, opens, finishes, next_none, next_some}
 use Rattle.reading_back.proofs.TwoOperands.{first_before}
 
 -- ---- operands
 
-module _ {all : World} {allows_in starts : Bool} {pieces : List Piece} {numbers : Numbers} {e : Expr} where
+module _ {all : World} {bound : ℕ} {allows_in starts : Bool} {pieces : List Piece} {numbers : Numbers} {e : Expr} where
   -- the operand of an operator before it
-  unary_part_reads : (f : Fit all 14 starts allows_in pieces numbers e) → Read all (f.part.bound + 1) pieces numbers (IsExpr e) (below allows_in 14) (part grammar.unary) give
+  unary_part_reads : (f : Fit all bound 14 starts allows_in pieces numbers e) → Read all (suc bound) pieces numbers (IsExpr e) (below allows_in 14) (part grammar.unary) give
   unary_part_reads f = record {
-    at = λ w c line rest nz room ready fits.
-        parted (omega (arith, room)) (ap (λ zs. zs ++ rest) (f.part.first.is line))
-        (from (tied.unary (rest_of (deeper w) c (tokens_from line pieces ++ rest))) ((f.part.unary f.enough).at (deeper w) c line rest nz (omega (arith, room)) (opens c.functions (numbers ++ nz) ready) fits));
+    at = λ w c line rest nz ready fits.
+        exactly (parted (ap (λ zs. zs ++ rest) (f.part.first.is line))
+        (from (tied.unary (rest_of (deeper w) c (tokens_from line pieces ++ rest))) ((f.part.unary f.enough).at (deeper w) c line rest nz (opens c.functions (numbers ++ nz) ready) fits))) (omega arith);
   }
 
 pub if_target_is : {A : Type 0} (x : Expr) (m : Reading A) (s : Rest) → E.is_target x ≡ true → E.if_target x m s ≡ m s
@@ -126,22 +126,22 @@ unary_starts op w c line zs = next_some Operators.unary_operator op _ _ (rest_of
 pub if_false : {A : Type 0} (b : Bool) (u m : Reading A) (s : Rest) → b ≡ false → cond b u m s ≡ m s
 if_false b u m s e = rw e refl
 
-module _ {all : World} {allows_in sa : Bool} {pa : List Piece} {na : Numbers} {a : Expr} (at : Place) (form : ExprForm) where
-  unary_reads : (op : UnaryOp) → out-ExprForm form ≡ ExprForm-F.Unary op a → (E.is_delete grammar op && E.is_name a) ≡ false → (fa : Fit all 14 sa allows_in pa na a)
-      → Read all (fa.part.bound + 1) (unary_operator op ++ pa) na (IsExpr (record { at = at; form = form })) (below allows_in 14) (E.unary grammar) give
+module _ {all : World} {ba : ℕ} {allows_in sa : Bool} {pa : List Piece} {na : Numbers} {a : Expr} (at : Place) (form : ExprForm) (low : Low all (record { at = at; form = form })) where
+  unary_reads : (op : UnaryOp) → out-ExprForm form ≡ ExprForm-F.Unary op a → (E.is_delete grammar op && E.is_name a) ≡ false → (fa : Fit all ba 14 sa allows_in pa na a)
+      → Read all (suc ba) (unary_operator op ++ pa) na (IsExpr (record { at = at; form = form })) (below allows_in 14) (E.unary grammar) give
   unary_reads op is no_name fa = record {
-    at = λ w c line rest nz room ready fits.
-        let d = after c (shape (unary_mark op) line) in
+    at = λ w c line rest nz ready fits.
+        exactly (let d = after c (shape (unary_mark op) line) in
         on (ap (λ zs. zs ++ rest) (signs op pa line))
         (from (unary_starts op w c line (tokens_from false pa ++ rest))
-        (bind ((unary_part_reads fa).at w d false rest nz room ready fits) (λ x g isa done.
+        (bind ((unary_part_reads fa).at w d false rest nz ready fits) (λ x g isa done.
         from (if_false (E.is_delete grammar op && E.is_name x) _ _ (rest_of w g rest) (ap (λ b. E.is_delete grammar op && b) (same_name isa) ∙ no_name))
-        (finishes (c.supply 0).0 (e.Unary op x) (same_layers (c.supply 0).0 at (e.Unary op x) form _ _ (e.outs-Unary op x) is (ap (λ y. ExprForm-F.Unary op y) isa.same)) done))));
+        (finishes (c.supply 0).0 (e.Unary op x) low (same_layers (c.supply 0).0 at (e.Unary op x) form _ _ (e.outs-Unary op x) is (ap (λ y. ExprForm-F.Unary op y) isa.same)) done))))) (omega arith);
   }
 
-  pub unary_part : (op : UnaryOp) → out-ExprForm form ≡ ExprForm-F.Unary op a → (E.is_delete grammar op && E.is_name a) ≡ false → Fit all 14 sa allows_in pa na a
-      → Part all (record { level = 14; calls = false; starts = false }) allows_in (unary_operator op ++ pa) na (record { at = at; form = form })
-  unary_part op is no_name fa = from_unary (flows_last (unary_operator op) pa fa.part.flows) (unary_first op pa) (fa.part.bound + 1) refl (unary_reads op is no_name fa)
+  pub unary_part : (op : UnaryOp) → out-ExprForm form ≡ ExprForm-F.Unary op a → (E.is_delete grammar op && E.is_name a) ≡ false → Fit all ba 14 sa allows_in pa na a
+      → Part all (suc ba) (record { level = 14; calls = false; starts = false }) allows_in (unary_operator op ++ pa) na (record { at = at; form = form })
+  unary_part op is no_name fa = from_unary (flows_last (unary_operator op) pa fa.part.flows) (unary_first op pa) (suc ba) refl (unary_reads op is no_name fa)
 
 -- ---- `++` and `--` (11.3, 11.4.4, 11.4.5)
 
@@ -176,36 +176,36 @@ postfix_ends {text = text} {behind = behind} st w d x zs target =
     next_some Operators.postfix_operator behind _ _ (rest_of w d (shape (form_of text) false ∷ zs)) st.postfixes
     ∙ if_target_is x (finish x.at (e.Step behind x)) (rest_of w (after d (shape (form_of text) false)) zs) target
 
-module _ {all : World} {allows_in sa : Bool} {pa : List Piece} {na : Numbers} {a : Expr} (at : Place) (form : ExprForm) {text : List ℕ} {before behind : StepOp} (st : Steps text before behind) where
-  prefix_reads : out-ExprForm form ≡ ExprForm-F.Step before a → E.is_target a ≡ true → (fa : Fit all 14 sa allows_in pa na a)
-      → Read all (fa.part.bound + 1) (prefix text ++ pa) na (IsExpr (record { at = at; form = form })) (below allows_in 14) (E.unary grammar) give
+module _ {all : World} {ba : ℕ} {allows_in sa : Bool} {pa : List Piece} {na : Numbers} {a : Expr} (at : Place) (form : ExprForm) (low : Low all (record { at = at; form = form })) {text : List ℕ} {before behind : StepOp} (st : Steps text before behind) where
+  prefix_reads : out-ExprForm form ≡ ExprForm-F.Step before a → E.is_target a ≡ true → (fa : Fit all ba 14 sa allows_in pa na a)
+      → Read all (suc ba) (prefix text ++ pa) na (IsExpr (record { at = at; form = form })) (below allows_in 14) (E.unary grammar) give
   prefix_reads is target fa = record {
-    at = λ w c line rest nz room ready fits.
-        let d = after c (shape (form_of text) line) in
+    at = λ w c line rest nz ready fits.
+        exactly (let d = after c (shape (form_of text) line) in
         from (prefix_starts st w c line (tokens_from false pa ++ rest))
-        (bind ((unary_part_reads fa).at w d false rest nz room ready fits) (λ x g isa done.
+        (bind ((unary_part_reads fa).at w d false rest nz ready fits) (λ x g isa done.
         from (if_target_is x (finish (c.supply 0).0 (e.Step before x)) (rest_of w g rest) (same_target isa ∙ target))
-        (finishes (c.supply 0).0 (e.Step before x) (same_layers (c.supply 0).0 at (e.Step before x) form _ _ (e.outs-Step before x) is (ap (λ y. ExprForm-F.Step before y) isa.same)) done)));
+        (finishes (c.supply 0).0 (e.Step before x) low (same_layers (c.supply 0).0 at (e.Step before x) form _ _ (e.outs-Step before x) is (ap (λ y. ExprForm-F.Step before y) isa.same)) done)))) (omega arith);
   }
 
-  pub prefix_part : out-ExprForm form ≡ ExprForm-F.Step before a → E.is_target a ≡ true → Fit all 14 sa allows_in pa na a
-      → Part all (record { level = 14; calls = false; starts = false }) allows_in (prefix text ++ pa) na (record { at = at; form = form })
+  pub prefix_part : out-ExprForm form ≡ ExprForm-F.Step before a → E.is_target a ≡ true → Fit all ba 14 sa allows_in pa na a
+      → Part all (suc ba) (record { level = 14; calls = false; starts = false }) allows_in (prefix text ++ pa) na (record { at = at; form = form })
   prefix_part is target fa = from_unary (flows_last (prefix text) pa fa.part.flows)
       (record { form = form_of text; more = tokens_from false pa; is = λ line. refl; begins = st.begins; no_statement = st.no_statement; no_sign = λ l. absurd (omega (arith, l)); plain = λ s. st.plain })
-      (fa.part.bound + 1) refl (prefix_reads is target fa)
+      (suc ba) refl (prefix_reads is target fa)
 
-  postfix_reads : out-ExprForm form ≡ ExprForm-F.Step behind a → E.is_target a ≡ true → (fa : Fit all 16 sa allows_in pa na a)
-      → Read all fa.part.bound (pa ++ closing text) na (IsExpr (record { at = at; form = form })) (below allows_in 14) (E.postfix grammar) give
+  postfix_reads : out-ExprForm form ≡ ExprForm-F.Step behind a → E.is_target a ≡ true → (fa : Fit all ba 16 sa allows_in pa na a)
+      → Read all ba (pa ++ closing text) na (IsExpr (record { at = at; form = form })) (below allows_in 14) (E.postfix grammar) give
   unfolding E.postfix
   postfix_reads is target fa = record {
-    at = λ w c line rest nz room ready fits.
-        on (spread pa (closing text) fa.part.flows line rest)
-        (bind ((left_hand_side_of allows_in 16 (omega arith) (fa.part.calls fa.enough)).at w c line (shape (form_of text) false ∷ rest) nz room ready (omega (arith, st.joined allows_in))) (λ x g isa done.
+    at = λ w c line rest nz ready fits.
+        exactly (on (spread pa (closing text) fa.part.flows line rest)
+        (bind ((left_hand_side_of allows_in 16 (omega arith) (fa.part.calls fa.enough)).at w c line (shape (form_of text) false ∷ rest) nz ready (omega (arith, st.joined allows_in))) (λ x g isa done.
         from (postfix_ends st w g x rest (same_target isa ∙ target))
-        (finishes x.at (e.Step behind x) (same_layers x.at at (e.Step behind x) form _ _ (e.outs-Step behind x) is (ap (λ y. ExprForm-F.Step behind y) isa.same)) done)));
+        (finishes x.at (e.Step behind x) low (same_layers x.at at (e.Step behind x) form _ _ (e.outs-Step behind x) is (ap (λ y. ExprForm-F.Step behind y) isa.same)) done)))) (omega arith);
   }
 
-  pub postfix_part : out-ExprForm form ≡ ExprForm-F.Step behind a → E.is_target a ≡ true → Fit all 16 sa allows_in pa na a
-      → Part all (record { level = 15; calls = false; starts = sa }) allows_in (pa ++ closing text) na (record { at = at; form = form })
+  pub postfix_part : out-ExprForm form ≡ ExprForm-F.Step behind a → E.is_target a ≡ true → Fit all ba 16 sa allows_in pa na a
+      → Part all ba (record { level = 15; calls = false; starts = sa }) allows_in (pa ++ closing text) na (record { at = at; form = form })
   postfix_part is target fa = from_postfix (flows_last pa (closing text) (flows_token text true _))
-      (first_before pa (closing text) fa.part.flows (λ l. omega (arith, fa.enough)) fa.plain fa.part.first) fa.part.bound refl (postfix_reads is target fa)
+      (first_before pa (closing text) fa.part.flows (λ l. omega (arith, fa.enough)) fa.plain fa.part.first) ba refl (postfix_reads is target fa)

@@ -69,7 +69,7 @@ target_along (ExprForm-F.Member object key) = refl
 target_along (ExprForm-F.Index object key) = refl
 target_along l = refl
 
-unplaced_form : (x : Expr) → out-ExprForm (unplaced.expr x).form ≡ unplaced_layer (out-ExprForm x.form)
+pub unplaced_form : (x : Expr) → out-ExprForm (unplaced.expr x).form ≡ unplaced_layer (out-ExprForm x.form)
 unplaced_form x = ap (λ (y : Expr). out-ExprForm y.form) (unplaced_is x.at x.form (out-ExprForm x.form) refl) ∙ out-roll-ExprForm (unplaced_layer (out-ExprForm x.form))
 
 unplaced_name : (x : Expr) → name_layer (out-ExprForm (unplaced.expr x).form) ≡ is_name x

@@ -1,5 +1,5 @@
 -- What it is that the printed tokens of statements read back.
-use Rattle.std.specs.Prelude.{◌≡◌, ◌||◌, ℕ, Bool, true, false, List, [], ◌∷◌, is_some}
+use Rattle.std.specs.Prelude.{◌≡◌, ◌≤◌, ◌||◌, ℕ, Bool, true, false, List, [], ◌∷◌, is_some}
 use Rattle.js_tree.specs.declared.statement.Stmt.{Stmt}
 use Rattle.js_tree.specs.declared.token.TokenForm.{TokenForm}
 use Rattle.js_grammar.specs.FunctionOrder.{Numbers}
@@ -11,10 +11,15 @@ use Rattle.script_text.specs.Pieces.{Piece}
 use Rattle.script_text.specs.Tokens.{Shape, shape, tokens_from}
 use Rattle.reading_back.proofs.Claims.{World, Flows, Read}
 use Rattle.reading_back.specs.Unplaced as unplaced
+use Rattle.script_nesting.specs.Height.{stmt_height}
 
 -- the same but for places
 pub record IsStmt (t x : Stmt) : Type 0 where
   pub same : unplaced.stmt x ≡ unplaced.stmt t
+
+-- a statement that is no higher than is allowed
+pub record LowStmt (all : World) (t : Stmt) : Type 0 where
+  pub within : stmt_height all.tall t ≤ all.high
 
 -- a token that ends a list of statements or clauses, or goes on with a statement
 abbrev pub ends_list : TokenForm → Bool
@@ -43,15 +48,13 @@ pub record NoElse (ends_in_if : Bool) (rest : List Shape) : Type 0 where
   pub no_finally : is_finally rest ≡ false
 
 -- a statement that is no function declaration (12)
-pub record StmtPart (all : World) (ends_in_if : Bool) (pieces : List Piece) (numbers : Numbers) (t : Stmt) : Type 0 where
+pub record StmtPart (all : World) (bound : ℕ) (ends_in_if : Bool) (pieces : List Piece) (numbers : Numbers) (t : Stmt) : Type 0 where
   pub flows : Flows pieces
   pub first : StmtFirst pieces
-  pub bound : ℕ
   pub reads : Read all bound pieces numbers (IsStmt t) (NoElse ends_in_if) (S.statement grammar) give
 
 -- a statement or a function declaration (14)
-pub record ElementPart (all : World) (ends_in_if : Bool) (pieces : List Piece) (numbers : Numbers) (t : Stmt) : Type 0 where
+pub record ElementPart (all : World) (bound : ℕ) (ends_in_if : Bool) (pieces : List Piece) (numbers : Numbers) (t : Stmt) : Type 0 where
   pub flows : Flows pieces
   pub first : StmtFirst pieces
-  pub bound : ℕ
   pub reads : Read all bound pieces numbers (IsStmt t) (NoElse ends_in_if) (S.element grammar) give

@@ -1,5 +1,5 @@
 -- Statements and function declarations as elements of a script or body (14).
-use Rattle.std.proofs.Common.{◌≡◌, Bool, true, false, List, [], ◌∷◌, ◌++◌, refl, ap, sym, ◌∙◌}
+use Rattle.std.proofs.Common.{◌≡◌, Bool, true, false, List, [], ◌∷◌, ◌++◌, refl, ap, sym, ◌∙◌, ℕ, ◌≤◌, arith, ◌+◌}
 use Rattle.std.specs.Prelude.{codes, slice_get, Option, Some, None, Ok, Err}
 use Rattle.js_value.specs.declared.place.FuncNo.{FuncNo}
 use Rattle.js_value.specs.declared.place.Place.{Place}
@@ -24,10 +24,12 @@ use Rattle.js_grammar.specs.Statements as S
 use Rattle.script_text.specs.Pieces.{Piece, word}
 use Rattle.script_text.specs.Tokens.{Shape, shape, form_of, tokens_from}
 use Rattle.reading_back.proofs.Claims.{World, Frame, Spot, rest_of, FunctionsRead}
-use Rattle.reading_back.proofs.StatementClaims.{ends_list, StmtPart, ElementPart}
+use Rattle.reading_back.proofs.StatementClaims.{LowStmt, ends_list, StmtPart, ElementPart}
 use Rattle.reading_back.proofs.Flowing.{flows_token}
 use Rattle.reading_back.proofs.StatementSteps.{same_stmts, token_first, finishes_stmt}
-use Rattle.reading_back.proofs.Steps.{from, bind, next_some}
+use Rattle.script_nesting.specs.Height as height
+use Rattle.script_nesting.proofs.Equations.{stmt_heights, stmt_height_is}
+use Rattle.reading_back.proofs.Steps.{exactly, with_limit, ready_with, from, bind, next_some}
 
 -- ---- a statement that reads is no function declaration
 
@@ -83,30 +85,30 @@ element_none : {all : World} (w : Frame all) (c : Spot) (t : TokenForm) (line : 
 unfolding S.element
 element_none w c t line zs e = rw e refl
 
-element_is : {all : World} (w : Frame all) (c : Spot) (t : TokenForm) (line : Bool) (zs : List Shape) (x : Stmt × Rest) → S.statement grammar (rest_of w c (shape t line ∷ zs)) ≡ Ok x
-    → S.element grammar (rest_of w c (shape t line ∷ zs)) ≡ S.statement grammar (rest_of w c (shape t line ∷ zs))
-element_is w c t line zs x done = by (Marks.function_word t) refl
+no_function_first : {all : World} (w : Frame all) (c : Spot) (t : TokenForm) (line : Bool) (zs : List Shape) (x : Stmt × Rest) → S.statement grammar (rest_of w c (shape t line ∷ zs)) ≡ Ok x → Marks.function_word t ≡ None
+no_function_first w c t line zs x done = by (Marks.function_word t) refl
   where
     two : (e : ReadRefused) → Err e ≡ Ok x → ⊥
     two e h = cc
 
-    by : (o : Option (Unit {0})) → Marks.function_word t ≡ o → S.element grammar (rest_of w c (shape t line ∷ zs)) ≡ S.statement grammar (rest_of w c (shape t line ∷ zs))
-    by None e = element_none w c t line zs e
-    by (Some u) e = absurd (two _ (sym (no_function w c t line zs e) ∙ done))
+    by : (o : Option (Unit {0})) → Marks.function_word t ≡ o → Marks.function_word t ≡ None
+    by None e = e
+    by (Some tt) e = absurd (two _ (sym (no_function w c t line zs e) ∙ done))
 
-pub element_of : {all : World} {ends : Bool} {pieces : List Piece} {numbers : Numbers} {t : Stmt} → StmtPart all ends pieces numbers t → ElementPart all ends pieces numbers t
-element_of {pieces = pieces} p = record {
+pub element_of : {all : World} {bound : ℕ} {ends : Bool} {pieces : List Piece} {numbers : Numbers} {t : Stmt} → StmtPart all bound ends pieces numbers t → ElementPart all bound ends pieces numbers t
+element_of {bound = bound} {pieces = pieces} {numbers = numbers} p = record {
   flows = p.flows;
   first = p.first;
-  bound = p.bound;
   reads = record {
-    at = λ w c line rest nz room ready fits.
-        let h = p.reads.at w c line rest nz room ready fits in
+    at = λ w c line rest nz ready fits.
+        let v = with_limit (w.opened + bound) w in
         let opened = ap (λ zs. zs ++ rest) (p.first.is line) in
+        let none : Marks.function_word p.first.form ≡ None =
+        no_function_first v c p.first.form line (p.first.more ++ rest) _ (ap (λ zs. S.statement grammar (rest_of v c zs)) (sym opened) ∙ (p.reads.at v c line rest nz (ready_with (w.opened + bound) c.functions (numbers ++ nz) ready) fits).done (omega arith)) in
         from {d = c} {other = tokens_from line pieces ++ rest} {n = S.statement grammar}
         (ap (λ zs. S.element grammar (rest_of w c zs)) opened
-        ∙ element_is w c p.first.form line (p.first.more ++ rest) _ (ap (λ zs. S.statement grammar (rest_of w c zs)) (sym opened) ∙ h.done)
-        ∙ ap (λ zs. S.statement grammar (rest_of w c zs)) (sym opened)) h;
+        ∙ element_none w c p.first.form line (p.first.more ++ rest) none
+        ∙ ap (λ zs. S.statement grammar (rest_of w c zs)) (sym opened)) (p.reads.at w c line rest nz ready fits);
   };
 }
 
@@ -122,18 +124,22 @@ declares : {all : World} (w : Frame all) (c : Spot) (line : Bool) (zs : List Sha
 unfolding S.element form_of reserved_word
 declares w c line zs = refl
 
-module _ {all : World} {function : Bool → FuncNo → List Piece} (reads : FunctionsRead all function) (at : Place) (form : StmtForm) (f : FuncNo) where
+module _ {all : World} {function : Bool → FuncNo → List Piece} {inside : FuncNo → ℕ} (reads : FunctionsRead all function inside) (at : Place) (form : StmtForm) (low : LowStmt all (record { at = at; form = form })) (f : FuncNo) where
+  short : out-StmtForm form ≡ StmtForm-F.FuncDecl f → all.tall f ≤ all.high
+  short is =
+      let same : height.of_stmt_form all.tall (stmt_heights all.tall (out-StmtForm form)) ≡ all.tall f = ap (λ l. height.of_stmt_form all.tall (stmt_heights all.tall l)) is in
+      omega (arith, low.within, stmt_height_is all.tall (record { at = at; form = form }), same)
+
   pub declaration_part : out-StmtForm form ≡ StmtForm-F.FuncDecl f → has_name (slice_get all.functions f.0) ≡ true
-      → ElementPart all false (word (codes "function") ++ function true f) (f.0 ∷ []) (record { at = at; form = form })
+      → ElementPart all (inside f) false (word (codes "function") ++ function true f) (f.0 ∷ []) (record { at = at; form = form })
   declaration_part is named = record {
     flows = reads.ends true f (word (codes "function")) (flows_token (codes "function") false _);
     first = token_first (codes "function") false _ _ function_first;
-    bound = reads.bound;
     reads = record {
-      at = λ w c line rest nz room ready fits.
-          let p = (c.supply 0).0 in
+      at = λ w c line rest nz ready fits.
+          exactly (let p = (c.supply 0).0 in
           from {d = c} (declares w c line (tokens_from false (function true f) ++ rest))
-          (bind ((reads.declaration f p named).at w c line rest nz room ready tt) (λ g d number done.
-          finishes_stmt p (s.FuncDecl g) (same_stmts p at (s.FuncDecl g) form _ _ (s.outs-FuncDecl g) is (ap (λ h. StmtForm-F.FuncDecl h) number.same)) done));
+          (bind ((reads.declaration f p (short is) named).at w c line rest nz ready tt) (λ g d number done.
+          finishes_stmt p (s.FuncDecl g) low (same_stmts p at (s.FuncDecl g) form _ _ (s.outs-FuncDecl g) is (ap (λ h. StmtForm-F.FuncDecl h) number.same)) done))) (omega arith);
     };
   }

@@ -8,6 +8,7 @@ use Rattle.js_grammar.proofs.Climbing.{climbs}
 use Rattle.js_tree.specs.Refusals.{place}
 use Rattle.js_tree.specs.Lexing.{lookup, reserved_word}
 use Rattle.js_tree.specs.declared.expression.Expr.{Expr}
+use Rattle.js_tree.specs.declared.expression.ExprForm.{out-ExprForm}
 use Rattle.js_tree.specs.declared.expression.ExprForm.TheVariants as e
 use Rattle.js_tree.specs.declared.refusal.Feature.TheVariants as feature
 use Rattle.js_tree.specs.declared.refusal.ReadRefused.{ReadRefused}
@@ -34,9 +35,9 @@ use Rattle.script_text.specs.Expressions.{reference}
 use Rattle.script_text.specs.Pieces as pieces
 use Rattle.script_text.specs.Pieces.{Piece, closing}
 use Rattle.script_text.specs.Tokens.{Shape, shape, form_of, name_form, reserved_or_name, mark_or_else, tokens_from}
-use Rattle.reading_back.proofs.Claims.{World, Frame, Spot, Supply, placed, rest_of, Leads, Ready, Read, anything, below, Look, First, IsExpr, Part, Fit}
+use Rattle.reading_back.proofs.Claims.{Low, World, Frame, Spot, Supply, placed, rest_of, Leads, Ready, Read, anything, below, Look, First, IsExpr, Part, Fit}
 use Rattle.reading_back.proofs.Marks.{begins_none, begins_statement, begins_other}
-use Rattle.reading_back.proofs.StatementClaims.{ends_list, StmtPart}
+use Rattle.reading_back.proofs.StatementClaims.{LowStmt, ends_list, StmtPart}
 use Rattle.reading_back.proofs.Flowing.{flows_last, flows_token, spread}
 use Rattle.reading_back.proofs.Joining.{begins, first_none}
 use Rattle.reading_back.proofs.Ladder.{no_more_commas, calls_of, postfix_of, unary_of, climb_of, conditional_of, looser, assignment_of, commas_of}
@@ -46,7 +47,9 @@ use Rattle.reading_back.proofs.Names.{identifier_form}
 use Rattle.reading_back.proofs.Words.{IsPlain, word_look, name_part}
 use Rattle.reading_back.proofs.StatementHeads.{semicolon_joins}
 use Rattle.reading_back.proofs.StatementSteps.{same_stmts, semicolon, finishes_stmt, ended}
-use Rattle.reading_back.proofs.Steps.{after, first_of_shapes, first_is, from, on, stays, chain, bind, finishes, next_none}
+use Rattle.script_nesting.specs.Height as height
+use Rattle.script_nesting.proofs.Equations.{heights, height_is, stmt_height_is}
+use Rattle.reading_back.proofs.Steps.{exactly, with_limit, ready_with, after, first_of_shapes, first_is, from, on, stays, chain, bind, finishes, next_none}
 
 -- ---- names among the tokens of pieces
 
@@ -155,11 +158,11 @@ whole = P.expression_by grammar (E.assignment grammar true) true
 module _ {all : World} {bound : ℕ} {ps : List Piece} {numbers : Numbers} {Is : Expr → Type 0} where
   closed_of : Read all bound ps numbers Is (below true 2) whole (repeat (P.more_commas grammar true)) → Read all bound ps numbers Is (below true 1) whole give
   closed_of h = record {
-    at = λ w c line rest nz room ready fits.
-        chain (h.at w c line rest nz room ready (omega (arith, fits))) (λ x d is done.
+    at = λ w c line rest nz ready fits.
+        exactly (chain (h.at w c line rest nz ready (omega (arith, fits))) (λ x d is done.
         from (repeated.commas true x (rest_of w d rest) ∙ no_more_commas true (repeat (P.more_commas grammar true)) x (rest_of w d rest)
         (first_is w Marks.comma d rest ∙ first_none Marks.comma true 1 rest (omega arith) (λ t q. q.comma (omega arith)) fits))
-        (stays {c = d} x give is done));
+        (stays {c = d} x give is done))) (omega arith);
   }
 
 -- ---- a name by itself reads up to what stands behind it
@@ -167,19 +170,25 @@ module _ {all : World} {bound : ℕ} {ps : List Piece} {numbers : Numbers} {Is :
 abbrev named : List ℕ → Expr
 named text = record { at = place 0; form = e.Name text }
 
-name_operand : {all : World} (text : List ℕ) → IsPlain text → Read all 0 (reference text) [] (IsExpr (named text)) anything (P.operand grammar) give
+-- a name is as low as can be
+low_name : (all : World) (text : List ℕ) → 1 ≤ all.high → Low all (named text)
+low_name all text some =
+    let is : height.of_form all.tall (heights all.tall (out-ExprForm (e.Name text))) ≡ 0 = ap (λ l. height.of_form all.tall (heights all.tall l)) (e.outs-Name text) in
+    record { within = omega (arith, some, height_is all.tall (named text), is) }
+
+name_operand : {all : World} → 1 ≤ all.high → (text : List ℕ) → IsPlain text → Read all 0 (reference text) [] (IsExpr (named text)) anything (P.operand grammar) give
 unfolding next
-name_operand text plain = record {
-  at = λ w c line rest nz room ready fits.
-      on (ap (λ t. shape t line ∷ rest) (identifier_form text plain.no_word))
+name_operand {all = all} some text plain = record {
+  at = λ w c line rest nz ready fits.
+      exactly (on (ap (λ t. shape t line ∷ rest) (identifier_form text plain.no_word))
       (from {d = after c (shape (form.Name text) line)} {n = finish (c.supply 0).0 (e.Name text)} (rw (plain.no_input, plain.no_call, plain.no_bar) refl)
-      (finishes (c.supply 0).0 (e.Name text) (same_layers (c.supply 0).0 (place 0) (e.Name text) (e.Name text) _ _ (e.outs-Name text) (e.outs-Name text) refl) ready));
+      (finishes (c.supply 0).0 (e.Name text) (low_name all text some) (same_layers (c.supply 0).0 (place 0) (e.Name text) (e.Name text) _ _ (e.outs-Name text) (e.outs-Name text) refl) ready))) (omega arith);
 }
 
-name_whole : {all : World} (text : List ℕ) → IsPlain text → Read all 0 (reference text) [] (IsExpr (named text)) (below true 1) whole give
-name_whole {all = all} text plain =
-    let first : First (word_look false) (reference text) = (name_part {all = record { functions = []; least = 0 }} {allows_in = true} (place 0) (e.Name text) text (e.outs-Name text) plain).first in
-    let u : Read all 0 (reference text) [] (IsExpr (named text)) (below true 14) (E.unary grammar) give = unary_of true first (omega arith) (postfix_of true (calls_of (name_operand text plain))) in
+name_whole : {all : World} → 1 ≤ all.high → (text : List ℕ) → IsPlain text → Read all 0 (reference text) [] (IsExpr (named text)) (below true 1) whole give
+name_whole {all = all} some text plain =
+    let first : First (word_look false) (reference text) = (name_part {all = all} {allows_in = true} (place 0) (e.Name text) (low_name all text some) text (e.outs-Name text) plain).first in
+    let u : Read all 0 (reference text) [] (IsExpr (named text)) (below true 14) (E.unary grammar) give = unary_of true first (omega arith) (postfix_of true (calls_of (name_operand some text plain))) in
     let d = looser true 2 (omega arith) (conditional_of true 17 (omega arith) (climb_of true 17 0 (omega arith) u)) in
     closed_of (commas_of true (assignment_of true d))
 
@@ -237,7 +246,7 @@ halts_fault r n x e = record { no_other = λ m is. absurd (none m (sym (ap left_
     none : (m : ℕ) → None ≡ Some m → ⊥
     none m e = cc
 
-module _ {all : World} (w : Frame all) (c : Spot) (line second : Bool) (zs : List Shape) (text : List ℕ) where
+module _ {all : World} (w : Frame all) (c : Spot) (line second : Bool) (zs : List Shape) (text : List ℕ) (some : 1 ≤ all.high) where
   abbrev colon_shape : Shape
   colon_shape = shape (form_of (codes ":")) second
 
@@ -258,8 +267,8 @@ module _ {all : World} (w : Frame all) (c : Spot) (line second : Bool) (zs : Lis
 
   plain_halts : IsPlain text → (nz : Numbers) → w.opened ≤ w.limit → Ready w c.functions nz → Halts (whole before_colon) (suc (length zs))
   plain_halts plain nz room ready =
-      let h = (name_whole text plain).at w c line (colon_shape ∷ zs) nz (omega (arith, room)) ready (omega (arith, colon_joins true)) in
-      let is : whole before_colon ≡ Ok (h.value, rest_of w h.spot (colon_shape ∷ zs)) = ap (λ t. whole (rest_of w c (shape t line ∷ (colon_shape ∷ zs)))) (sym (identifier_form text plain.no_word)) ∙ h.done in
+      let h = (name_whole some text plain).at w c line (colon_shape ∷ zs) nz ready (omega (arith, colon_joins true)) in
+      let is : whole before_colon ≡ Ok (h.value, rest_of w h.spot (colon_shape ∷ zs)) = ap (λ t. whole (rest_of w c (shape t line ∷ (colon_shape ∷ zs)))) (sym (identifier_form text plain.no_word)) ∙ h.done (omega (arith, room)) in
       record { no_other = λ m e. some_is m (suc (length zs)) (sym e ∙ ap left_behind is ∙ ap Some (left_length w h.spot (colon_shape ∷ zs))) }
     where
       some_is : (m n : ℕ) → Some m ≡ Some n → m ≡ n
@@ -281,15 +290,15 @@ semicolon_no_colon : Marks.colon (form_of (codes ";")) ≡ None
 unfolding form_of reserved_word
 semicolon_no_colon = refl
 
-module _ {all : World} {look : Look} {ps : List Piece} {numbers : Numbers} {e : Expr} (p : Part all look true ps numbers e) (w : Frame all) (c : Spot) (line : Bool) (rest : List Shape) (nz : Numbers)
-    (room : w.opened + p.bound ≤ w.limit) (ready : Ready w c.functions (numbers ++ nz)) where
-  lead : Leads w nz (IsExpr e) c (tokens_from line ps ++ (semicolon ∷ rest)) (semicolon ∷ rest) whole give
-  lead = (closed_of p.commas).at w c line (semicolon ∷ rest) nz room ready (omega (arith, semicolon_joins true))
+module _ {all : World} {bound : ℕ} {look : Look} {ps : List Piece} {numbers : Numbers} {e : Expr} (p : Part all bound look true ps numbers e) (w : Frame all) (c : Spot) (line : Bool) (rest : List Shape) (nz : Numbers)
+    (ready : Ready w c.functions (numbers ++ nz)) where
+  lead : Leads (w.opened + bound) w nz (IsExpr e) c (tokens_from line ps ++ (semicolon ∷ rest)) (semicolon ∷ rest) whole give
+  lead = (closed_of p.commas).at w c line (semicolon ∷ rest) nz ready (omega (arith, semicolon_joins true))
 
   -- no colon stands behind a name at the front
-  no_label : (text : List ℕ) (more : List Shape) → tokens_from line ps ≡ shape (form.Name text) line ∷ more → first_of_shapes Marks.colon (more ++ (semicolon ∷ rest)) ≡ None
-  no_label text [] is = semicolon_no_colon
-  no_label text (s ∷ ss) is = by (Marks.colon s.form) refl
+  no_label : 1 ≤ all.high → w.opened + bound ≤ w.limit → (text : List ℕ) (more : List Shape) → tokens_from line ps ≡ shape (form.Name text) line ∷ more → first_of_shapes Marks.colon (more ++ (semicolon ∷ rest)) ≡ None
+  no_label some room text [] is = semicolon_no_colon
+  no_label some room text (s ∷ ss) is = by (Marks.colon s.form) refl
     where
       no_word : reserved_word text ≡ None
       no_word = no_reserved line ps text (ap first_form is)
@@ -298,8 +307,8 @@ module _ {all : World} {look : Look} {ps : List Piece} {numbers : Numbers} {e : 
       too_far f =
           let zs = ss ++ (semicolon ∷ rest) in
           let fronts : tokens_from line ps ++ (semicolon ∷ rest) ≡ shape (form.Name text) line ∷ (shape (form_of (codes ":")) s.line_before ∷ zs) = ap (λ ys. ys ++ (semicolon ∷ rest)) is ∙ ap (λ t. shape (form.Name text) line ∷ (shape t s.line_before ∷ zs)) f in
-          let left = ap left_behind (sym (ap (λ ys. whole (rest_of w c ys)) fronts) ∙ lead.done) ∙ ap Some (left_length w lead.spot (semicolon ∷ rest)) in
-          let same : suc (length rest) ≡ suc (length zs) = (halts w c line s.line_before zs text no_word (numbers ++ nz) (omega (arith, room)) ready).no_other _ left in
+          let left = ap left_behind (sym (ap (λ ys. whole (rest_of w c ys)) fronts) ∙ lead.done room) ∙ ap Some (left_length w lead.spot (semicolon ∷ rest)) in
+          let same : suc (length rest) ≡ suc (length zs) = (halts w c line s.line_before zs text some no_word (numbers ++ nz) (omega (arith, room)) ready).no_other _ left in
           let longer : length zs ≡ length ss + suc (length rest) = length-append ss (semicolon ∷ rest) in
           omega (arith, same, longer)
 
@@ -347,9 +356,10 @@ no_list_end t a b =
     by false true z b = absurd (cc)
     by false false z b = b
 
-module _ {all : World} {pe : List Piece} {ne : Numbers} {e : Expr} (at : Place) (form : StmtForm) where
-  pub eval_part : out-StmtForm form ≡ StmtForm-F.Eval e → Fit all 0 false true pe ne e → StmtPart all false (pe ++ closing (codes ";")) ne (record { at = at; form = form })
+module _ {all : World} {be : ℕ} {pe : List Piece} {ne : Numbers} {e : Expr} (at : Place) (form : StmtForm) (low : LowStmt all (record { at = at; form = form })) where
+  pub eval_part : out-StmtForm form ≡ StmtForm-F.Eval e → Fit all be 0 false true pe ne e → StmtPart all be false (pe ++ closing (codes ";")) ne (record { at = at; form = form })
   eval_part is f =
+      let some : 1 ≤ all.high = omega (arith, low.within, stmt_height_is all.tall (record { at = at; form = form })) in
       let first = f.part.first in
       record {
         flows = flows_last pe (closing (codes ";")) (flows_token (codes ";") true _);
@@ -359,18 +369,17 @@ module _ {all : World} {pe : List Piece} {ne : Numbers} {e : Expr} (at : Place) 
           is = λ line. f.part.flows.at line (closing (codes ";")) ∙ ap (λ zs. zs ++ (semicolon ∷ [])) (first.is line);
           begins = no_list_end first.form first.begins (first.plain (f.plain refl));
         };
-        bound = f.part.bound;
         reads = record {
-          at = λ w c line rest nz room ready fits.
-              let opened = ap (λ zs. zs ++ (semicolon ∷ rest)) (first.is line) in
+          at = λ w c line rest nz ready fits.
+              exactly (let opened = ap (λ zs. zs ++ (semicolon ∷ rest)) (first.is line) in
               on (spread pe (closing (codes ";")) f.part.flows line rest)
               (from {d = c} {other = tokens_from line pe ++ (semicolon ∷ rest)} {n = S.expression_statement grammar}
               (ap (λ zs. S.statement grammar (rest_of w c zs)) opened
               ∙ expression_is w c first.form line (first.more ++ (semicolon ∷ rest)) (no_beginning first.form first.no_statement (first.plain (f.plain refl)))
-              (λ text named. no_label f.part w c line rest nz room ready text first.more (first.is line ∙ ap (λ t. shape t line ∷ first.more) named))
+              (λ text named. no_label f.part (with_limit (w.opened + be) w) c line rest nz (ready_with (w.opened + be) c.functions (ne ++ nz) ready) some (omega arith) text first.more (first.is line ∙ ap (λ t. shape t line ∷ first.more) named))
               ∙ ap (λ zs. S.expression_statement grammar (rest_of w c zs)) (sym opened))
-              (bind (lead f.part w c line rest nz room ready) (λ x d isx readyx.
+              (bind (lead f.part w c line rest nz ready) (λ x d isx readyx.
               ended {c = d} continues_expression (λ _. finish_stmt x.at (s.Eval x))
-              (finishes_stmt x.at (s.Eval x) (same_stmts x.at at (s.Eval x) form _ _ (s.outs-Eval x) is (ap (λ v. StmtForm-F.Eval v) isx.same)) readyx))));
+              (finishes_stmt x.at (s.Eval x) low (same_stmts x.at at (s.Eval x) form _ _ (s.outs-Eval x) is (ap (λ v. StmtForm-F.Eval v) isx.same)) readyx))))) (omega arith);
         };
       }

@@ -1,5 +1,5 @@
 -- `for`-`in` (12.6.4).
-use Rattle.std.proofs.Common.{◌≡◌, ◌≤◌, ℕ, ◌+◌, Bool, true, false, List, [], ◌∷◌, ◌++◌, refl, ap, sym, ◌∙◌, subst, arith, append_assoc}
+use Rattle.std.proofs.Common.{◌≡◌, ℕ, ◌+◌, Bool, true, false, List, [], ◌∷◌, ◌++◌, refl, ap, sym, ◌∙◌, subst, arith, append_assoc, suc, max}
 use Rattle.std.specs.Prelude.{codes, Some, None}
 use Rattle.js_value.specs.declared.place.Place.{Place}
 use Rattle.js_tree.specs.Lexing.{reserved_word}
@@ -23,7 +23,7 @@ use Rattle.script_text.specs.Pieces.{Piece, word, opening, closing}
 use Rattle.script_text.specs.Tokens.{Shape, shape, form_of, name_form, tokens_from}
 use Rattle.reading_back.proofs.Claims.{World, Frame, Spot, rest_of, deeper, Leads, Ready, Read, Flows, IsExpr, Fit}
 use Rattle.reading_back.proofs.Marks.{joins}
-use Rattle.reading_back.proofs.StatementClaims.{IsStmt, NoElse, StmtPart}
+use Rattle.reading_back.proofs.StatementClaims.{LowStmt, IsStmt, NoElse, StmtPart}
 use Rattle.reading_back.specs.Unplaced as unplaced
 use Rattle.reading_back.proofs.Flowing.{flows_last, spread}
 use Rattle.reading_back.proofs.FunctionNames.{IsDeclared, name_lead}
@@ -32,7 +32,7 @@ use Rattle.reading_back.proofs.OneOperand.{if_target_is}
 use Rattle.reading_back.proofs.Same.{same_target}
 use Rattle.reading_back.proofs.StatementFors.{IsHeader, behind_sees, header_is, no_semicolon, no_var_first, var_is, var_no_semicolon, for_first, opened_before, header_lead}
 use Rattle.reading_back.proofs.StatementSteps.{StmtLayer, same_stmts, left_parenthesis, right_parenthesis, token_first}
-use Rattle.reading_back.proofs.Steps.{after, from, on, stays, bind, take, miss, expected, opens}
+use Rattle.reading_back.proofs.Steps.{exactly, after, from, on, stays, bind, take, miss, expected, opens}
 use Rattle.reading_back.proofs.TwoOperands.{ready_behind}
 
 abbrev in_shape : Shape
@@ -48,43 +48,40 @@ in_joins = refl
 
 -- ---- what is assigned to
 
-pub record TargetPart (all : World) (pf : List Piece) (numbers : Numbers) (to : ForTarget) : Type 0 where
-  pub bound : ℕ
+pub record TargetPart (all : World) (bound : ℕ) (pf : List Piece) (numbers : Numbers) (to : ForTarget) : Type 0 where
   pub flows : Flows pf
-  pub reads : (mold : Stmt → StmtLayer) (w : Frame all) (c : Spot) (zs rest : List Shape) (nz nr : Numbers) → w.opened + bound ≤ w.limit → Ready w c.functions (numbers ++ nz)
-      → ((f : ForTarget) (d : Spot) → unplaced.for_target f ≡ unplaced.for_target to → Ready w d.functions nz → Leads w nr (IsHeader mold) d zs rest (S.for_in grammar f) give)
-      → Leads w nr (IsHeader mold) c (tokens_from false pf ++ (in_shape ∷ zs)) rest (S.for_header grammar) give
+  pub reads : (mold : Stmt → StmtLayer) (w : Frame all) (c : Spot) (zs rest : List Shape) (nz nr : Numbers) (l : ℕ) → Ready w c.functions (numbers ++ nz)
+      → ((f : ForTarget) (d : Spot) → unplaced.for_target f ≡ unplaced.for_target to → Ready w d.functions nz → Leads l w nr (IsHeader mold) d zs rest (S.for_in grammar f) give)
+      → Leads (max (w.opened + bound) l) w nr (IsHeader mold) c (tokens_from false pf ++ (in_shape ∷ zs)) rest (S.for_header grammar) give
 
-module _ {all : World} {starts : Bool} {pf : List Piece} {nf : Numbers} {e : Expr} where
-  pub expression_target : Fit all 16 starts false pf nf e → E.is_target e ≡ true → TargetPart all pf nf (target.Expr e)
+module _ {all : World} {bf : ℕ} {starts : Bool} {pf : List Piece} {nf : Numbers} {e : Expr} where
+  pub expression_target : Fit all bf 16 starts false pf nf e → E.is_target e ≡ true → TargetPart all bf pf nf (target.Expr e)
   unfolding S.for_expression
   expression_target f is_target =
-      let g : Fit all 1 starts false pf nf e = record { look = f.look; enough = omega (arith, f.enough); plain = f.plain; part = f.part } in
+      let g : Fit all bf 1 starts false pf nf e = record { look = f.look; enough = omega (arith, f.enough); plain = f.plain; part = f.part } in
       record {
-        bound = f.part.bound;
         flows = f.part.flows;
-        reads = λ mold w c zs rest nz nr room ready go.
-            from {d = c} {n = behind_sees false} (header_is w c (tokens_from false pf ++ (in_shape ∷ zs)) None (no_semicolon g (in_shape ∷ zs)))
+        reads = λ mold w c zs rest nz nr l ready go.
+            exactly (from {d = c} {n = behind_sees false} (header_is w c (tokens_from false pf ++ (in_shape ∷ zs)) None (no_semicolon g (in_shape ∷ zs)))
             (miss Marks.var_word _ _ (no_var_first g (in_shape ∷ zs))
-            (bind ((expression_reads f.part).at w c false (in_shape ∷ zs) nz room ready (omega (arith, in_joins))) (λ x d is done.
+            (bind ((expression_reads f.part).at w c false (in_shape ∷ zs) nz ready (omega (arith, in_joins))) (λ x d is done.
             take {c = d} {s = in_shape} Marks.in_word tt _ _ in_is
             (from (if_target_is x (S.for_in grammar (target.Expr x)) (rest_of w (after d in_shape) zs) (same_target is ∙ is_target))
-            (go (target.Expr x) (after d in_shape) (ap (λ v. target.Expr v) is.same) done)))));
+            (go (target.Expr x) (after d in_shape) (ap (λ v. target.Expr v) is.same) done)))))) (omega arith);
       }
 
-pub var_target : {all : World} (at : Place) (text : List ℕ) → IsDeclared text → TargetPart all (word (codes "var") ++ name text) [] (target.Var at text)
+pub var_target : {all : World} (at : Place) (text : List ℕ) → IsDeclared text → TargetPart all 0 (word (codes "var") ++ name text) [] (target.Var at text)
 unfolding S.for_var
 var_target at text declared = record {
-  bound = 0;
   flows = record { at = λ line more. refl };
-  reads = λ mold w c zs rest nz nr room ready go.
+  reads = λ mold w c zs rest nz nr l ready go.
       let v = shape (form_of (codes "var")) false in
       let n : Name = record { at = place 0; text = text } in
-      from {d = c} {n = behind_sees false} (header_is w c (v ∷ (shape (name_form text) false ∷ (in_shape ∷ zs))) None var_no_semicolon)
+      exactly (from {d = c} {n = behind_sees false} (header_is w c (v ∷ (shape (name_form text) false ∷ (in_shape ∷ zs))) None var_no_semicolon)
       (take {c = c} {s = v} Marks.var_word tt _ _ var_is
       (bind (name_lead n declared w (after c v) false (in_shape ∷ zs) nz ready) (λ x d is done.
       take {c = d} {s = in_shape} Marks.in_word tt _ _ in_is
-      (go (target.Var x.at x.text) (after d in_shape) (ap (λ (m : Name). target.Var (place 0) m.text) is.same) done))));
+      (go (target.Var x.at x.text) (after d in_shape) (ap (λ (m : Name). target.Var (place 0) m.text) is.same) done))))) (omega arith);
 }
 
 -- ---- the header
@@ -110,34 +107,33 @@ module _ {e : Expr} (f to : ForTarget) (f_is : unplaced.for_target f ≡ unplace
         ∙ ap (λ v. StmtForm-F.ForIn (unplaced.for_target to) (unplaced.expr e) v) isy.same);
   }
 
-module _ {all : World} {se : Bool} {pe : List Piece} {ne : Numbers} {e : Expr} (f to : ForTarget) (f_is : unplaced.for_target f ≡ unplaced.for_target to) where
-  in_lead : (object : Fit all 1 se true pe ne e) (w : Frame all) (c : Spot) (rest : List Shape) (nz : Numbers) → w.opened + object.part.bound ≤ w.limit → Ready w c.functions (ne ++ nz)
-      → Leads w nz (IsHeader (λ body. StmtForm-F.ForIn to e body)) c (tokens_from false pe ++ (right_parenthesis ∷ rest)) rest (S.for_in grammar f) give
+module _ {all : World} {be : ℕ} {se : Bool} {pe : List Piece} {ne : Numbers} {e : Expr} (f to : ForTarget) (f_is : unplaced.for_target f ≡ unplaced.for_target to) where
+  in_lead : (object : Fit all be 1 se true pe ne e) (w : Frame all) (c : Spot) (rest : List Shape) (nz : Numbers) → Ready w c.functions (ne ++ nz)
+      → Leads (w.opened + be) w nz (IsHeader (λ body. StmtForm-F.ForIn to e body)) c (tokens_from false pe ++ (right_parenthesis ∷ rest)) rest (S.for_in grammar f) give
   unfolding S.for_in
-  in_lead object w c rest nz room ready =
-      bind ((expression_reads object.part).at w c false (right_parenthesis ∷ rest) nz room ready (omega (arith, right_parenthesis_joins true))) (λ x d is done.
+  in_lead object w c rest nz ready =
+      exactly (bind ((expression_reads object.part).at w c false (right_parenthesis ∷ rest) nz ready (omega (arith, right_parenthesis_joins true))) (λ x d is done.
       expected {c = d} {s = right_parenthesis} Marks.right_parenthesis tt _ right_parenthesis_is
-      (stays {c = after d right_parenthesis} (λ body. s.ForIn f x body) give (in_same f to f_is x is) done))
+      (stays {c = after d right_parenthesis} (λ body. s.ForIn f x body) give (in_same f to f_is x is) done))) (omega arith)
 
-module _ {all : World} {se ends : Bool} {pf pe pb : List Piece} {nf ne nb : Numbers} {to : ForTarget} {e : Expr} {body : Stmt} (at : Place) (form : StmtForm) where
-  in_reads : out-StmtForm form ≡ StmtForm-F.ForIn to e body → (t : TargetPart all pf nf to) (object : Fit all 1 se true pe ne e) (p : StmtPart all ends pb nb body)
-      → Read all ((t.bound + object.part.bound + 1) + p.bound + 1) (in_pieces pf pe ++ pb) ((nf ++ ne) ++ nb) (IsStmt (record { at = at; form = form })) (NoElse ends) (S.statement grammar) give
+module _ {all : World} {bf be bb : ℕ} {se ends : Bool} {pf pe pb : List Piece} {nf ne nb : Numbers} {to : ForTarget} {e : Expr} {body : Stmt} (at : Place) (form : StmtForm) (low : LowStmt all (record { at = at; form = form })) where
+  in_reads : out-StmtForm form ≡ StmtForm-F.ForIn to e body → (t : TargetPart all bf pf nf to) (object : Fit all be 1 se true pe ne e) (p : StmtPart all bb ends pb nb body)
+      → Read all (max (suc (max bf be)) (suc bb)) (in_pieces pf pe ++ pb) ((nf ++ ne) ++ nb) (IsStmt (record { at = at; form = form })) (NoElse ends) (S.statement grammar) give
   in_reads is t object p = record {
-    at = λ w c line rest nz room ready fits.
-        let mold : Stmt → StmtLayer = λ body. StmtForm-F.ForIn to e body in
+    at = λ w c line rest nz ready fits.
+        exactly (let mold : Stmt → StmtLayer = λ body. StmtForm-F.ForIn to e body in
         let shapes = tokens_from false pe ++ (right_parenthesis ∷ (tokens_from false pb ++ rest)) in
         on (spread_in pf pe pb t.flows object.part.flows line rest)
-        (header_lead p at form mold is (t.bound + object.part.bound + 1) w c line (tokens_from false pf ++ (in_shape ∷ shapes)) rest nz room (opened_before (tokens_from false pf) in_shape shapes) fits (λ d there.
-        t.reads mold (deeper w) d shapes (tokens_from false pb ++ rest) (ne ++ (nb ++ nz)) (nb ++ nz) (omega (arith, room)) (subst (λ (e : Spot). Ready (deeper w) e.functions (nf ++ (ne ++ (nb ++ nz)))) (sym there)
+        (header_lead p at form low mold is (max bf be) w c line (tokens_from false pf ++ (in_shape ∷ shapes)) rest nz (opened_before (tokens_from false pf) in_shape shapes) fits (λ d there.
+        exactly (t.reads mold (deeper w) d shapes (tokens_from false pb ++ rest) (ne ++ (nb ++ nz)) (nb ++ nz) _ (subst (λ (e : Spot). Ready (deeper w) e.functions (nf ++ (ne ++ (nb ++ nz)))) (sym there)
         (opens c.functions _ (ready_behind c.functions nf ne (nb ++ nz) (ready_behind c.functions (nf ++ ne) nb nz ready)))) (λ g h g_is readyh.
-        in_lead g to g_is object (deeper w) h (tokens_from false pb ++ rest) (nb ++ nz) (omega (arith, room)) readyh)));
+        in_lead g to g_is object (deeper w) h (tokens_from false pb ++ rest) (nb ++ nz) readyh)) (omega arith)))) (omega arith);
   }
 
-  pub for_in_part : out-StmtForm form ≡ StmtForm-F.ForIn to e body → TargetPart all pf nf to → Fit all 1 se true pe ne e → StmtPart all ends pb nb body
-      → StmtPart all ends (in_pieces pf pe ++ pb) ((nf ++ ne) ++ nb) (record { at = at; form = form })
+  pub for_in_part : out-StmtForm form ≡ StmtForm-F.ForIn to e body → TargetPart all bf pf nf to → Fit all be 1 se true pe ne e → StmtPart all bb ends pb nb body
+      → StmtPart all (max (suc (max bf be)) (suc bb)) ends (in_pieces pf pe ++ pb) ((nf ++ ne) ++ nb) (record { at = at; form = form })
   for_in_part is t object p = record {
     flows = flows_last (in_pieces pf pe) pb p.flows;
     first = token_first (codes "for") false _ _ for_first;
-    bound = (t.bound + object.part.bound + 1) + p.bound + 1;
     reads = in_reads is t object p;
   }

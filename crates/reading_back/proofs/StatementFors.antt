@@ -1,5 +1,5 @@
 -- `for` and `for`-`in` (12.6.3, 12.6.4).
-use Rattle.std.proofs.Common.{◌≡◌, ◌≤◌, ℕ, ◌+◌, Bool, true, false, cond, List, [], ◌∷◌, ◌++◌, refl, ap, sym, ◌∙◌, subst, arith, append_assoc}
+use Rattle.std.proofs.Common.{◌≡◌, ℕ, ◌+◌, Bool, true, false, cond, List, [], ◌∷◌, ◌++◌, refl, ap, sym, ◌∙◌, subst, arith, append_assoc, suc, max}
 use Rattle.std.specs.Prelude.{codes, Option, Some, None, is_some}
 use Rattle.std.specs.Option.{option_map}
 use Rattle.js_value.specs.declared.place.Place.{Place}
@@ -26,7 +26,7 @@ use Rattle.script_text.specs.Pieces.{Piece, word, opening, closing, separated, b
 use Rattle.script_text.specs.Tokens.{Shape, shape, form_of, name_form, tokens_from}
 use Rattle.reading_back.proofs.Claims.{World, Frame, Spot, rest_of, deeper, Leads, Ready, Read, Fit}
 use Rattle.reading_back.proofs.Marks.{joins, begins_statement}
-use Rattle.reading_back.proofs.StatementClaims.{IsStmt, ends_list, NoElse, StmtPart}
+use Rattle.reading_back.proofs.StatementClaims.{LowStmt, IsStmt, ends_list, NoElse, StmtPart}
 use Rattle.reading_back.specs.Unplaced as unplaced
 use Rattle.reading_back.proofs.Flowing.{flows_last, spread}
 use Rattle.reading_back.proofs.FunctionNames.{name_lead}
@@ -36,7 +36,7 @@ use Rattle.reading_back.proofs.Members.{parenthesis_mark}
 use Rattle.reading_back.proofs.StatementHeads.{semicolon_joins}
 use Rattle.reading_back.proofs.StatementSteps.{StmtLayer, same_stmts, semicolon, semicolon_is, left_parenthesis, right_parenthesis, begins_with, token_first, finishes_stmt, stmt_reads}
 use Rattle.reading_back.proofs.StatementVars.{Init, semicolon_no_in, Decl, spread_behind, decl_pieces, decls_bound, decls_numbers, decls_trees, init_pieces, init_numbers, behind_decl, spread_init, stops, init_lead, is_declarator, declarators_lead}
-use Rattle.reading_back.proofs.Steps.{after, first_of_shapes, first_is, from, on, stays, bind, take, miss, expected, parted, opens}
+use Rattle.reading_back.proofs.Steps.{exactly, raise, after, first_of_shapes, first_is, from, on, stays, bind, take, miss, expected, parted, opens}
 use Rattle.reading_back.proofs.TwoOperands.{ready_behind}
 
 -- ---- an expression that may be absent
@@ -46,7 +46,8 @@ pub record Opt (all : World) : Type 0 where
   pub pieces : List Piece
   pub numbers : Numbers
   pub tree : Expr
-  pub fit : Fit all 1 starts true pieces numbers tree
+  pub bound : ℕ
+  pub fit : Fit all bound 1 starts true pieces numbers tree
 
 -- what reads as nothing or as an expression that is the same but for places
 pub record IsMaybe (o v : Option Expr) : Type 0 where
@@ -55,7 +56,7 @@ pub record IsMaybe (o v : Option Expr) : Type 0 where
 module _ {all : World} where
   abbrev pub opt_bound : Option (Opt all) → ℕ
   opt_bound None = 0
-  opt_bound (Some x) = x.fit.part.bound
+  opt_bound (Some x) = x.bound
 
   abbrev pub opt_pieces : Option (Opt all) → List Piece
   opt_pieces None = []
@@ -77,16 +78,16 @@ module _ {all : World} where
   seen close w c zs o again e = ap (λ z. again (is_some z) (rest_of w c zs)) (first_is w close c zs ∙ e)
 
   opt_lead : (close : TokenForm → Option (Unit {0})) (z : Shape) → close z.form ≡ Some tt → joins true z.form ≡ 0 → ((t : TokenForm) → Begins t → close t ≡ None)
-      → (o : Option (Opt all)) (w : Frame all) (c : Spot) (rest : List Shape) (nz : Numbers) → w.opened + opt_bound o ≤ w.limit → Ready w c.functions (opt_numbers o ++ nz)
-      → Leads w nz (IsMaybe (opt_tree o)) c (tokens_from false (opt_pieces o) ++ (z ∷ rest)) (z ∷ rest) (S.expression_unless grammar close) give
-  opt_lead close z closes quiet others None w c rest nz room ready =
-      from {d = c} {n = give None} (seen close w c (z ∷ rest) (Some tt) (λ closed. cond closed (give None) (P.expression grammar >>= λ x. give (Some x))) closes) (stays {c = c} None give (record { same = refl }) ready)
-  opt_lead close z closes quiet others (Some x) w c rest nz room ready =
-      let f = x.fit.part.first in
+      → (o : Option (Opt all)) (w : Frame all) (c : Spot) (rest : List Shape) (nz : Numbers) → Ready w c.functions (opt_numbers o ++ nz)
+      → Leads (w.opened + opt_bound o) w nz (IsMaybe (opt_tree o)) c (tokens_from false (opt_pieces o) ++ (z ∷ rest)) (z ∷ rest) (S.expression_unless grammar close) give
+  opt_lead close z closes quiet others None w c rest nz ready =
+      exactly (from {d = c} {n = give None} (seen close w c (z ∷ rest) (Some tt) (λ closed. cond closed (give None) (P.expression grammar >>= λ x. give (Some x))) closes) (stays {c = c} None give (record { same = refl }) ready)) (omega arith)
+  opt_lead close z closes quiet others (Some x) w c rest nz ready =
+      exactly (let f = x.fit.part.first in
       from {d = c} {n = P.expression grammar >>= λ y. give (Some y)}
       (seen close w c (tokens_from false x.pieces ++ (z ∷ rest)) None (λ closed. cond closed (give None) (P.expression grammar >>= λ x. give (Some x)))
       (ap (λ zs. first_of_shapes close (zs ++ (z ∷ rest))) (f.is false) ∙ others f.form (begins f.form f.begins)))
-      (bind ((expression_reads x.fit.part).at w c false (z ∷ rest) nz room ready (omega (arith, quiet))) (λ y d is done. stays {c = d} (Some y) give (record { same = ap Some is.same }) done))
+      (bind ((expression_reads x.fit.part).at w c false (z ∷ rest) nz ready (omega (arith, quiet))) (λ y d is done. stays {c = d} (Some y) give (record { same = ap Some is.same }) done))) (omega arith)
 
 -- ---- headers
 
@@ -138,16 +139,16 @@ module _ {all : World} (test step : Option (Opt all)) (f model : ForStart) (f_is
         ∙ ap (λ v. StmtForm-F.For (unplaced.for_start model) (option_map unplaced.expr (opt_tree test)) (option_map unplaced.expr (opt_tree step)) v) isx.same);
   }
 
-  parts_lead : (w : Frame all) (c : Spot) (rest : List Shape) (nz : Numbers) → w.opened + (opt_bound test + opt_bound step) ≤ w.limit → Ready w c.functions (opt_numbers test ++ (opt_numbers step ++ nz))
-      → Leads w nz (IsHeader (λ body. StmtForm-F.For model (opt_tree test) (opt_tree step) body)) c (semicolon ∷ (tokens_from false (opt_pieces test) ++ (semicolon ∷ (tokens_from false (opt_pieces step) ++ (right_parenthesis ∷ rest))))) rest (S.for_parts grammar f) give
+  parts_lead : (w : Frame all) (c : Spot) (rest : List Shape) (nz : Numbers) → Ready w c.functions (opt_numbers test ++ (opt_numbers step ++ nz))
+      → Leads (w.opened + max (opt_bound test) (opt_bound step)) w nz (IsHeader (λ body. StmtForm-F.For model (opt_tree test) (opt_tree step) body)) c (semicolon ∷ (tokens_from false (opt_pieces test) ++ (semicolon ∷ (tokens_from false (opt_pieces step) ++ (right_parenthesis ∷ rest))))) rest (S.for_parts grammar f) give
   unfolding S.for_parts
-  parts_lead w c rest nz room ready =
-      expected {c = c} {s = semicolon} Marks.semicolon tt _ semicolon_is
-      (bind (opt_lead Marks.semicolon semicolon semicolon_is (semicolon_joins true) (λ t b. b.semicolon) test w (after c semicolon) (tokens_from false (opt_pieces step) ++ (right_parenthesis ∷ rest)) (opt_numbers step ++ nz) (omega (arith, room)) ready) (λ t d ist readyt.
+  parts_lead w c rest nz ready =
+      exactly (expected {c = c} {s = semicolon} Marks.semicolon tt _ semicolon_is
+      (bind (opt_lead Marks.semicolon semicolon semicolon_is (semicolon_joins true) (λ t b. b.semicolon) test w (after c semicolon) (tokens_from false (opt_pieces step) ++ (right_parenthesis ∷ rest)) (opt_numbers step ++ nz) ready) (λ t d ist readyt.
       expected {c = d} {s = semicolon} Marks.semicolon tt _ semicolon_is
-      (bind (opt_lead Marks.right_parenthesis right_parenthesis right_parenthesis_is (right_parenthesis_joins true) right_parenthesis_begins_none step w (after d semicolon) rest nz (omega (arith, room)) readyt) (λ u g isu readyu.
+      (bind (opt_lead Marks.right_parenthesis right_parenthesis right_parenthesis_is (right_parenthesis_joins true) right_parenthesis_begins_none step w (after d semicolon) rest nz readyt) (λ u g isu readyu.
       expected {c = g} {s = right_parenthesis} Marks.right_parenthesis tt _ right_parenthesis_is
-      (stays {c = after g right_parenthesis} (λ body. s.For f t u body) give (for_same t u ist isu) readyu)))))
+      (stays {c = after g right_parenthesis} (λ body. s.For f t u body) give (for_same t u ist isu) readyu)))))) (omega arith)
 
 -- ---- the first part (12.6.3)
 
@@ -203,12 +204,11 @@ no_var (form.Number n) e = refl
 no_var (form.Str text) e = refl
 
 -- a first part up to its semicolon
-pub record StartPart (all : World) (pf : List Piece) (numbers : Numbers) (from : ForStart) : Type 0 where
-  pub bound : ℕ
+pub record StartPart (all : World) (bound : ℕ) (pf : List Piece) (numbers : Numbers) (from : ForStart) : Type 0 where
   pub spreads : (more : List Piece) (rest : List Shape) → tokens_from false (pf ++ more) ++ rest ≡ tokens_from false pf ++ (tokens_from false more ++ rest)
-  pub reads : (mold : Stmt → StmtLayer) (w : Frame all) (c : Spot) (zs rest : List Shape) (nz nr : Numbers) → w.opened + bound ≤ w.limit → Ready w c.functions (numbers ++ nz)
-      → ((f : ForStart) (d : Spot) → unplaced.for_start f ≡ unplaced.for_start from → Ready w d.functions nz → Leads w nr (IsHeader mold) d (semicolon ∷ zs) rest (S.for_parts grammar f) give)
-      → Leads w nr (IsHeader mold) c (tokens_from false pf ++ (semicolon ∷ zs)) rest (S.for_header grammar) give
+  pub reads : (mold : Stmt → StmtLayer) (w : Frame all) (c : Spot) (zs rest : List Shape) (nz nr : Numbers) (l : ℕ) → Ready w c.functions (numbers ++ nz)
+      → ((f : ForStart) (d : Spot) → unplaced.for_start f ≡ unplaced.for_start from → Ready w d.functions nz → Leads l w nr (IsHeader mold) d (semicolon ∷ zs) rest (S.for_parts grammar f) give)
+      → Leads (max (w.opened + bound) l) w nr (IsHeader mold) c (tokens_from false pf ++ (semicolon ∷ zs)) rest (S.for_header grammar) give
 
 abbrev pub behind_sees : Bool → Reading (Stmt → StmtForm)
 behind_sees without = next Marks.var_word (λ _. S.for_var grammar) (cond without (S.for_parts grammar start.Nothing) (S.for_expression grammar))
@@ -216,32 +216,30 @@ behind_sees without = next Marks.var_word (λ _. S.for_var grammar) (cond withou
 pub header_is : {all : World} (w : Frame all) (c : Spot) (zs : List Shape) (o : Option (Unit {0})) → first_of_shapes Marks.semicolon zs ≡ o → S.for_header grammar (rest_of w c zs) ≡ behind_sees (is_some o) (rest_of w c zs)
 header_is w c zs o e = ap (λ z. behind_sees (is_some z) (rest_of w c zs)) (first_is w Marks.semicolon c zs ∙ e)
 
-pub nothing_part : {all : World} → StartPart all [] [] start.Nothing
+pub nothing_part : {all : World} → StartPart all 0 [] [] start.Nothing
 nothing_part = record {
-  bound = 0;
   spreads = λ more rest. refl;
-  reads = λ mold w c zs rest nz nr room ready go.
-      from {d = c} {n = behind_sees true} (header_is w c (semicolon ∷ zs) (Some tt) semicolon_is)
-      (miss Marks.var_word _ _ semicolon_no_var (go start.Nothing c refl ready));
+  reads = λ mold w c zs rest nz nr l ready go.
+      exactly (raise (from {d = c} {n = behind_sees true} (header_is w c (semicolon ∷ zs) (Some tt) semicolon_is)
+      (miss Marks.var_word _ _ semicolon_no_var (go start.Nothing c refl ready)))) (omega arith);
 }
 
-module _ {all : World} {starts : Bool} {pe : List Piece} {ne : Numbers} {e : Expr} (f : Fit all 1 starts false pe ne e) where
+module _ {all : World} {be : ℕ} {starts : Bool} {pe : List Piece} {ne : Numbers} {e : Expr} (f : Fit all be 1 starts false pe ne e) where
   pub no_semicolon : (zs : List Shape) → first_of_shapes Marks.semicolon (tokens_from false pe ++ zs) ≡ None
   no_semicolon zs = ap (λ ys. first_of_shapes Marks.semicolon (ys ++ zs)) (f.part.first.is false) ∙ (begins f.part.first.form f.part.first.begins).semicolon
 
   pub no_var_first : (zs : List Shape) → first_of_shapes Marks.var_word (tokens_from false pe ++ zs) ≡ None
   no_var_first zs = ap (λ ys. first_of_shapes Marks.var_word (ys ++ zs)) (f.part.first.is false) ∙ no_var f.part.first.form f.part.first.no_statement
 
-  pub expression_start : StartPart all pe ne (start.Expr e)
+  pub expression_start : StartPart all be pe ne (start.Expr e)
   unfolding S.for_expression
   expression_start = record {
-    bound = f.part.bound;
     spreads = λ more rest. spread pe more f.part.flows false rest;
-    reads = λ mold w c zs rest nz nr room ready go.
-        from {d = c} {n = behind_sees false} (header_is w c (tokens_from false pe ++ (semicolon ∷ zs)) None (no_semicolon (semicolon ∷ zs)))
+    reads = λ mold w c zs rest nz nr l ready go.
+        exactly (from {d = c} {n = behind_sees false} (header_is w c (tokens_from false pe ++ (semicolon ∷ zs)) None (no_semicolon (semicolon ∷ zs)))
         (miss Marks.var_word _ _ (no_var_first (semicolon ∷ zs))
-        (bind ((expression_reads f.part).at w c false (semicolon ∷ zs) nz room ready (omega (arith, semicolon_joins false))) (λ x d is done.
-        miss Marks.in_word _ _ semicolon_no_in (go (start.Expr x) d (ap (λ v. start.Expr v) is.same) done))));
+        (bind ((expression_reads f.part).at w c false (semicolon ∷ zs) nz ready (omega (arith, semicolon_joins false))) (λ x d is done.
+        miss Marks.in_word _ _ semicolon_no_in (go (start.Expr x) d (ap (λ v. start.Expr v) is.same) done))))) (omega arith);
   }
 
 pub var_no_semicolon : Marks.semicolon (form_of (codes "var")) ≡ None
@@ -257,28 +255,27 @@ no_in_behind None ds zs = (stops ds zs).no_in
 no_in_behind (Some i) ds zs = equals_no_in
 
 module _ {all : World} (d : Decl all false) (ds : List (Decl all false)) where
-  pub var_start : StartPart all (word (codes "var") ++ separated decl_pieces (d ∷ ds)) (decls_numbers (d ∷ ds)) (start.Var (decls_trees (d ∷ ds)))
+  pub var_start : StartPart all (decls_bound (d ∷ ds)) (word (codes "var") ++ separated decl_pieces (d ∷ ds)) (decls_numbers (d ∷ ds)) (start.Var (decls_trees (d ∷ ds)))
   unfolding S.for_var
   var_start = record {
-    bound = decls_bound (d ∷ ds);
     spreads = λ more rest.
         let behind = behind_commas decl_pieces ds in
         ap (λ ys. shape (form_of (codes "var")) false ∷ (shape (name_form d.tree.name) false ∷ ys))
         (ap (λ ps. tokens_from false ps ++ rest) (append_assoc (init_pieces d.init) behind more)
         ∙ spread_init d.init (behind ++ more) rest ∙ ap (λ ys. tokens_from false (init_pieces d.init) ++ ys) (spread_behind ds more rest) ∙ sym (spread_init d.init behind (tokens_from false more ++ rest)));
-    reads = λ mold w c zs rest nz nr room ready go.
+    reads = λ mold w c zs rest nz nr l ready go.
         let v = shape (form_of (codes "var")) false in
         let n : Name = record { at = place 0; text = d.tree.name } in
         let behind_name = tokens_from false (init_pieces d.init) ++ behind_decl ds zs in
-        on (ap (λ ys. v ∷ (shape (name_form d.tree.name) false ∷ ys)) (spread_init d.init (behind_commas decl_pieces ds) (semicolon ∷ zs)))
+        exactly (on (ap (λ ys. v ∷ (shape (name_form d.tree.name) false ∷ ys)) (spread_init d.init (behind_commas decl_pieces ds) (semicolon ∷ zs)))
         (from {d = c} {n = behind_sees false} (header_is w c (v ∷ (shape (name_form d.tree.name) false ∷ behind_name)) None var_no_semicolon)
         (take {c = c} {s = v} Marks.var_word tt _ _ var_is
         (bind (name_lead n d.declared w (after c v) false behind_name (init_numbers d.init ++ (decls_numbers ds ++ nz)) (ready_behind c.functions (init_numbers d.init) (decls_numbers ds) nz ready)) (λ x f isn readyn.
         miss Marks.in_word _ _ (no_in_behind d.init ds zs)
-        (bind (init_lead x d.init w f (behind_decl ds zs) (decls_numbers ds ++ nz) (omega (arith, room)) readyn (stops ds zs)) (λ u g isu readyu.
+        (bind (init_lead x d.init w f (behind_decl ds zs) (decls_numbers ds ++ nz) readyn (stops ds zs)) (λ u g isu readyu.
         miss Marks.in_word _ _ (stops ds zs).no_in
-        (bind (declarators_lead d ds u.0 (is_declarator d x u isn isu) w g zs nz (omega (arith, room)) readyu) (λ us h are done.
-        go (start.Var us) h (ap (λ v. start.Var v) are.same) done))))))));
+        (bind (declarators_lead d ds u.0 (is_declarator d x u isn isu) w g zs nz readyu) (λ us h are done.
+        go (start.Var us) h (ap (λ v. start.Var v) are.same) done))))))))) (omega arith);
   }
 
 -- ---- the statement (12.6.3)
@@ -302,40 +299,39 @@ opened_before [] z zs = record { s = z; more = zs; is = refl }
 opened_before (x ∷ xs) z zs = record { s = x; more = xs ++ (z ∷ zs); is = refl }
 
 -- a header and a body
-module _ {all : World} {ends : Bool} {pb : List Piece} {nb : Numbers} {body : Stmt} (p : StmtPart all ends pb nb body) (at : Place) (form : StmtForm) (mold : Stmt → StmtLayer) where
-  pub header_lead : out-StmtForm form ≡ mold body → (bound : ℕ) (w : Frame all) (c : Spot) (line : Bool) (shapes rest : List Shape) (nz : Numbers) → w.opened + (bound + p.bound + 1) ≤ w.limit → Opened shapes → NoElse ends rest
-      → ((d : Spot) → d ≡ after (after c (shape (form_of (codes "for")) line)) left_parenthesis → Leads (deeper w) (nb ++ nz) (IsHeader mold) d shapes (tokens_from false pb ++ rest) (S.for_header grammar) give)
-      → Leads w nz (IsStmt (record { at = at; form = form })) c (shape (form_of (codes "for")) line ∷ (left_parenthesis ∷ shapes)) rest (S.statement grammar) give
+module _ {all : World} {bb : ℕ} {ends : Bool} {pb : List Piece} {nb : Numbers} {body : Stmt} (p : StmtPart all bb ends pb nb body) (at : Place) (form : StmtForm) (low : LowStmt all (record { at = at; form = form })) (mold : Stmt → StmtLayer) where
+  pub header_lead : out-StmtForm form ≡ mold body → (bound : ℕ) (w : Frame all) (c : Spot) (line : Bool) (shapes rest : List Shape) (nz : Numbers) → Opened shapes → NoElse ends rest
+      → ((d : Spot) → d ≡ after (after c (shape (form_of (codes "for")) line)) left_parenthesis → Leads (w.opened + 1 + bound) (deeper w) (nb ++ nz) (IsHeader mold) d shapes (tokens_from false pb ++ rest) (S.for_header grammar) give)
+      → Leads (w.opened + max (suc bound) (suc bb)) w nz (IsStmt (record { at = at; form = form })) c (shape (form_of (codes "for")) line ∷ (left_parenthesis ∷ shapes)) rest (S.statement grammar) give
   unfolding S.for_behind
-  header_lead is bound w c line shapes rest nz room o fits header =
-      let f = shape (form_of (codes "for")) line in
+  header_lead is bound w c line shapes rest nz o fits header =
+      exactly (let f = shape (form_of (codes "for")) line in
       begins_with {c = c} (codes "for") S.For for_begins
       (expected {c = after c f} {s = left_parenthesis} Marks.left_parenthesis tt _ parenthesis_mark.parenthesis_is
-      (bind (parted (omega (arith, room)) o.is (header (after (after c f) left_parenthesis) refl)) (λ whole d isw readyw.
-      bind ((stmt_reads p).at w d false rest nz (omega (arith, room)) readyw fits) (λ y g isy readyy.
-      finishes_stmt (c.supply 0).0 (whole y) (isw.same body y isy at (c.supply 0).0 form is) readyy))))
+      (bind (parted o.is (header (after (after c f) left_parenthesis) refl)) (λ whole d isw readyw.
+      bind ((stmt_reads p).at w d false rest nz readyw fits) (λ y g isy readyy.
+      finishes_stmt (c.supply 0).0 (whole y) low (isw.same body y isy at (c.supply 0).0 form is) readyy))))) (omega arith)
 
-module _ {all : World} {ends : Bool} {pf pb : List Piece} {nf nb : Numbers} {from : ForStart} {body : Stmt} (at : Place) (form : StmtForm) (test step : Option (Opt all)) where
-  for_reads : out-StmtForm form ≡ StmtForm-F.For from (opt_tree test) (opt_tree step) body → (f : StartPart all pf nf from) (p : StmtPart all ends pb nb body)
-      → Read all ((f.bound + opt_bound test + opt_bound step + 1) + p.bound + 1) (for_pieces test step pf ++ pb) (((nf ++ opt_numbers test) ++ opt_numbers step) ++ nb) (IsStmt (record { at = at; form = form })) (NoElse ends) (S.statement grammar) give
+module _ {all : World} {bf bb : ℕ} {ends : Bool} {pf pb : List Piece} {nf nb : Numbers} {from : ForStart} {body : Stmt} (at : Place) (form : StmtForm) (low : LowStmt all (record { at = at; form = form })) (test step : Option (Opt all)) where
+  for_reads : out-StmtForm form ≡ StmtForm-F.For from (opt_tree test) (opt_tree step) body → (f : StartPart all bf pf nf from) (p : StmtPart all bb ends pb nb body)
+      → Read all (max (suc (max (max bf (opt_bound test)) (opt_bound step))) (suc bb)) (for_pieces test step pf ++ pb) (((nf ++ opt_numbers test) ++ opt_numbers step) ++ nb) (IsStmt (record { at = at; form = form })) (NoElse ends) (S.statement grammar) give
   for_reads is f p = record {
-    at = λ w c line rest nz room ready fits.
-        let nt = opt_numbers test in
+    at = λ w c line rest nz ready fits.
+        exactly (let nt = opt_numbers test in
         let ns = opt_numbers step in
         let shapes = rest_shapes pb test step rest in
-        let bound = f.bound + opt_bound test + opt_bound step + 1 in
+        let bound : ℕ = max (max bf (opt_bound test)) (opt_bound step) in
         on (spread_for pb test step pf f.spreads line rest)
-        (header_lead p at form (λ body. StmtForm-F.For from (opt_tree test) (opt_tree step) body) is bound w c line (tokens_from false pf ++ (semicolon ∷ shapes)) rest nz room (opened_before (tokens_from false pf) semicolon shapes) fits (λ d there.
-        f.reads (λ body. StmtForm-F.For from (opt_tree test) (opt_tree step) body) (deeper w) d shapes (tokens_from false pb ++ rest) (nt ++ (ns ++ (nb ++ nz))) (nb ++ nz) (omega (arith, room)) (subst (λ (e : Spot). Ready (deeper w) e.functions (nf ++ (nt ++ (ns ++ (nb ++ nz))))) (sym there)
+        (header_lead p at form low (λ body. StmtForm-F.For from (opt_tree test) (opt_tree step) body) is bound w c line (tokens_from false pf ++ (semicolon ∷ shapes)) rest nz (opened_before (tokens_from false pf) semicolon shapes) fits (λ d there.
+        exactly (f.reads (λ body. StmtForm-F.For from (opt_tree test) (opt_tree step) body) (deeper w) d shapes (tokens_from false pb ++ rest) (nt ++ (ns ++ (nb ++ nz))) (nb ++ nz) _ (subst (λ (e : Spot). Ready (deeper w) e.functions (nf ++ (nt ++ (ns ++ (nb ++ nz))))) (sym there)
         (opens c.functions _ (ready_behind c.functions nf nt (ns ++ (nb ++ nz)) (ready_behind c.functions (nf ++ nt) ns (nb ++ nz) (ready_behind c.functions ((nf ++ nt) ++ ns) nb nz ready))))) (λ g h g_is readyh.
-        parts_lead test step g from g_is (deeper w) h (tokens_from false pb ++ rest) (nb ++ nz) (omega (arith, room)) readyh)));
+        parts_lead test step g from g_is (deeper w) h (tokens_from false pb ++ rest) (nb ++ nz) readyh)) (omega arith)))) (omega arith);
   }
 
-  pub for_part : out-StmtForm form ≡ StmtForm-F.For from (opt_tree test) (opt_tree step) body → StartPart all pf nf from → StmtPart all ends pb nb body
-      → StmtPart all ends (for_pieces test step pf ++ pb) (((nf ++ opt_numbers test) ++ opt_numbers step) ++ nb) (record { at = at; form = form })
+  pub for_part : out-StmtForm form ≡ StmtForm-F.For from (opt_tree test) (opt_tree step) body → StartPart all bf pf nf from → StmtPart all bb ends pb nb body
+      → StmtPart all (max (suc (max (max bf (opt_bound test)) (opt_bound step))) (suc bb)) ends (for_pieces test step pf ++ pb) (((nf ++ opt_numbers test) ++ opt_numbers step) ++ nb) (record { at = at; form = form })
   for_part is f p = record {
     flows = flows_last (for_pieces test step pf) pb p.flows;
     first = token_first (codes "for") false _ _ for_first;
-    bound = (f.bound + opt_bound test + opt_bound step + 1) + p.bound + 1;
     reads = for_reads is f p;
   }

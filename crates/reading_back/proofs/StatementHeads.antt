@@ -1,5 +1,5 @@
 -- Statements with an expression in parentheses: `if`, `while` and `do` (12.5, 12.6.1, 12.6.2).
-use Rattle.std.proofs.Common.{◌≡◌, ◌≤◌, ◌+◌, Bool, true, false, List, [], ◌∷◌, ◌++◌, refl, ap, ◌∙◌, arith, append_assoc}
+use Rattle.std.proofs.Common.{◌≡◌, ◌+◌, Bool, true, false, List, [], ◌∷◌, ◌++◌, refl, ap, ◌∙◌, arith, append_assoc, ℕ, suc, max}
 use Rattle.std.specs.Prelude.{◌||◌, not, codes, Option, Some, None, is_some}
 use Rattle.js_value.specs.declared.place.Place.{Place}
 use Rattle.js_tree.specs.Lexing.{reserved_word}
@@ -18,12 +18,12 @@ use Rattle.script_text.specs.Pieces.{Piece, word, closing}
 use Rattle.script_text.specs.Statements.{else_word, line_end_unless}
 use Rattle.script_text.specs.Tokens.{Shape, shape, form_of, tokens_from}
 use Rattle.reading_back.proofs.Claims.{World, Frame, Spot, Leads, Ready, Read, Flows, Fit}
-use Rattle.reading_back.proofs.StatementClaims.{IsStmt, ends_list, is_else, is_finally, NoElse, StmtPart}
+use Rattle.reading_back.proofs.StatementClaims.{LowStmt, IsStmt, ends_list, is_else, is_finally, NoElse, StmtPart}
 use Rattle.reading_back.proofs.Marks.{joins}
 use Rattle.reading_back.specs.Unplaced as unplaced
 use Rattle.reading_back.proofs.Flowing.{flows_last, flows_token, spread}
 use Rattle.reading_back.proofs.StatementSteps.{same_stmts, unplaced_parts, semicolon, left_parenthesis, right_parenthesis, begins_with, token_first, finishes_stmt, ended, head_pieces, split_head, head_reads, stmt_reads}
-use Rattle.reading_back.proofs.Steps.{after, first_of_shapes, on, stays, bind, take, miss, expected}
+use Rattle.reading_back.proofs.Steps.{exactly, after, first_of_shapes, on, stays, bind, take, miss, expected}
 use Rattle.reading_back.proofs.TwoOperands.{ready_behind}
 
 pub no_else_none : (rest : List Shape) → is_else rest ≡ false → first_of_shapes Marks.else_word rest ≡ None
@@ -68,38 +68,37 @@ record IsSomeStmt (t : Stmt) (o : Option Stmt) : Type 0 where
   same : IsStmt t tree
 
 module _ {all : World} {w : Frame all} {c : Spot} {rest : List Shape} {nz : Numbers} where
-  without_else : is_else rest ≡ false → Ready w c.functions nz → Leads w nz (λ z. z ≡ None) c rest rest (S.else_part grammar) give
-  without_else e ready = miss Marks.else_word _ _ (no_else_none rest e) (stays None give refl ready)
+  without_else : is_else rest ≡ false → Ready w c.functions nz → Leads w.opened w nz (λ z. z ≡ None) c rest rest (S.else_part grammar) give
+  without_else e ready = exactly (miss Marks.else_word _ _ (no_else_none rest e) (stays None give refl ready)) (omega arith)
 
-  with_else : {ends : Bool} {pb : List Piece} {nb : Numbers} {b : Stmt} (q : StmtPart all ends pb nb b) (line : Bool) → w.opened + (q.bound + 1) ≤ w.limit → Ready w c.functions (nb ++ nz) → NoElse ends rest
-      → Leads w nz (IsSomeStmt b) c (shape (form_of (codes "else")) line ∷ (tokens_from false pb ++ rest)) rest (S.else_part grammar) give
-  with_else q line room ready fits =
-      take {c = c} Marks.else_word tt (λ _. part grammar.statement >>= λ x. give (Some x)) (give None) else_is
-      (bind ((stmt_reads q).at w (after c (shape (form_of (codes "else")) line)) false rest nz room ready fits) (λ z h isz readyz. stays (Some z) give (record { tree = z; is = refl; same = isz }) readyz))
+  with_else : {bb : ℕ} {ends : Bool} {pb : List Piece} {nb : Numbers} {b : Stmt} (q : StmtPart all bb ends pb nb b) (line : Bool) → Ready w c.functions (nb ++ nz) → NoElse ends rest
+      → Leads (w.opened + suc bb) w nz (IsSomeStmt b) c (shape (form_of (codes "else")) line ∷ (tokens_from false pb ++ rest)) rest (S.else_part grammar) give
+  with_else q line ready fits =
+      exactly (take {c = c} Marks.else_word tt (λ _. part grammar.statement >>= λ x. give (Some x)) (give None) else_is
+      (bind ((stmt_reads q).at w (after c (shape (form_of (codes "else")) line)) false rest nz ready fits) (λ z h isz readyz. stays (Some z) give (record { tree = z; is = refl; same = isz }) readyz))) (omega arith)
 
-module _ {all : World} {se : Bool} {pe pa : List Piece} {ne na : Numbers} {e : Expr} {a : Stmt} (at : Place) (form : StmtForm) where
-  if_reads : {ends : Bool} → out-StmtForm form ≡ StmtForm-F.If e a None → (f : Fit all 1 se true pe ne e) (p : StmtPart all ends pa na a)
-      → Read all (f.part.bound + p.bound + 1) (head_pieces (codes "if") pe ++ pa) (ne ++ na) (IsStmt (record { at = at; form = form })) (NoElse true) (S.statement grammar) give
+module _ {all : World} {be ba : ℕ} {se : Bool} {pe pa : List Piece} {ne na : Numbers} {e : Expr} {a : Stmt} (at : Place) (form : StmtForm) (low : LowStmt all (record { at = at; form = form })) where
+  if_reads : {ends : Bool} → out-StmtForm form ≡ StmtForm-F.If e a None → (f : Fit all be 1 se true pe ne e) (p : StmtPart all ba ends pa na a)
+      → Read all (max (max (suc be) (suc ba)) 0) (head_pieces (codes "if") pe ++ pa) (ne ++ na) (IsStmt (record { at = at; form = form })) (NoElse true) (S.statement grammar) give
   unfolding S.if_behind
   if_reads is f p = record {
-    at = λ w c line rest nz room ready fits.
-        let q = (c.supply 0).0 in
+    at = λ w c line rest nz ready fits.
+        exactly (let q = (c.supply 0).0 in
         let o = after c (shape (form_of (codes "if")) line) in
         on (split_head (codes "if") pe pa f.part.flows line rest)
         (begins_with {c = c} (codes "if") S.If if_begins
-        (bind (head_reads f w o (tokens_from false pa ++ rest) (na ++ nz) (omega (arith, room)) (ready_behind c.functions ne na nz ready)) (λ x d isx readyx.
-        bind ((stmt_reads p).at w d false rest nz (omega (arith, room)) readyx (record { holds = λ _. fits.holds refl; no_finally = fits.no_finally })) (λ y g isy readyy.
+        (bind (head_reads f w o (tokens_from false pa ++ rest) (na ++ nz) (ready_behind c.functions ne na nz ready)) (λ x d isx readyx.
+        bind ((stmt_reads p).at w d false rest nz readyx (record { holds = λ _. fits.holds refl; no_finally = fits.no_finally })) (λ y g isy readyy.
         bind (without_else (fits.holds refl) readyy) (λ z h isz readyz.
-        finishes_stmt q (s.If x y z) (same_stmts q at (s.If x y z) form _ _ (s.outs-If x y z) is
-        (ap (λ v. unplaced_parts (StmtForm-F.If x y v)) isz ∙ ap (λ v. StmtForm-F.If v (unplaced.stmt y) None) isx.same ∙ ap (λ v. StmtForm-F.If (unplaced.expr e) v None) isy.same)) readyz)))));
+        finishes_stmt q (s.If x y z) low (same_stmts q at (s.If x y z) form _ _ (s.outs-If x y z) is
+        (ap (λ v. unplaced_parts (StmtForm-F.If x y v)) isz ∙ ap (λ v. StmtForm-F.If v (unplaced.stmt y) None) isx.same ∙ ap (λ v. StmtForm-F.If (unplaced.expr e) v None) isy.same)) readyz)))))) (omega arith);
   }
 
-  pub if_part : {ends : Bool} → out-StmtForm form ≡ StmtForm-F.If e a None → Fit all 1 se true pe ne e → StmtPart all ends pa na a
-      → StmtPart all true (head_pieces (codes "if") pe ++ pa) (ne ++ na) (record { at = at; form = form })
+  pub if_part : {ends : Bool} → out-StmtForm form ≡ StmtForm-F.If e a None → Fit all be 1 se true pe ne e → StmtPart all ba ends pa na a
+      → StmtPart all (max (max (suc be) (suc ba)) 0) true (head_pieces (codes "if") pe ++ pa) (ne ++ na) (record { at = at; form = form })
   if_part is f p = record {
     flows = flows_last (head_pieces (codes "if") pe) pa p.flows;
     first = token_first (codes "if") false _ _ if_first;
-    bound = f.part.bound + p.bound + 1;
     reads = if_reads is f p;
   }
 
@@ -121,32 +120,31 @@ module _ (pe pa pb : List Piece) (is_block : Bool) where
       ∙ split_head (codes "if") pe ((pa ++ else_word is_block) ++ pb) fe line rest
       ∙ ap (λ zs. shape (form_of (codes "if")) line ∷ (left_parenthesis ∷ (tokens_from false pe ++ (right_parenthesis ∷ zs)))) (split_else pa pb is_block fa rest)
 
-module _ {all : World} {se ends : Bool} {pe pa pb : List Piece} {ne na nb : Numbers} {e : Expr} {a b : Stmt} (at : Place) (form : StmtForm) (is_block : Bool) where
-  else_reads : out-StmtForm form ≡ StmtForm-F.If e a (Some b) → (f : Fit all 1 se true pe ne e) (p : StmtPart all false pa na a) (q : StmtPart all ends pb nb b)
-      → Read all (f.part.bound + p.bound + q.bound + 1) (else_pieces pe pa pb is_block) ((ne ++ na) ++ nb) (IsStmt (record { at = at; form = form })) (NoElse ends) (S.statement grammar) give
+module _ {all : World} {be ba bb : ℕ} {se ends : Bool} {pe pa pb : List Piece} {ne na nb : Numbers} {e : Expr} {a b : Stmt} (at : Place) (form : StmtForm) (low : LowStmt all (record { at = at; form = form })) (is_block : Bool) where
+  else_reads : out-StmtForm form ≡ StmtForm-F.If e a (Some b) → (f : Fit all be 1 se true pe ne e) (p : StmtPart all ba false pa na a) (q : StmtPart all bb ends pb nb b)
+      → Read all (max (max (suc be) (suc ba)) (suc bb)) (else_pieces pe pa pb is_block) ((ne ++ na) ++ nb) (IsStmt (record { at = at; form = form })) (NoElse ends) (S.statement grammar) give
   unfolding S.if_behind
   else_reads is f p q = record {
-    at = λ w c line rest nz room ready fits.
-        let here = (c.supply 0).0 in
+    at = λ w c line rest nz ready fits.
+        exactly (let here = (c.supply 0).0 in
         let o = after c (shape (form_of (codes "if")) line) in
         let e_shape = shape (form_of (codes "else")) (not is_block) in
         let behind = e_shape ∷ (tokens_from false pb ++ rest) in
         on (split_if pe pa pb is_block line rest f.part.flows p.flows)
         (begins_with {c = c} (codes "if") S.If if_begins
-        (bind (head_reads f w o (tokens_from false pa ++ behind) (na ++ (nb ++ nz)) (omega (arith, room)) (ready_behind c.functions ne na (nb ++ nz) (ready_behind c.functions (ne ++ na) nb nz ready))) (λ x d isx readyx.
-        bind ((stmt_reads p).at w d false behind (nb ++ nz) (omega (arith, room)) readyx (never behind else_no_finally)) (λ y g isy readyy.
-        bind (with_else q (not is_block) (omega (arith, room)) readyy fits) (λ z h isz readyz.
-        finishes_stmt here (s.If x y z) (same_stmts here at (s.If x y z) form _ _ (s.outs-If x y z) is
+        (bind (head_reads f w o (tokens_from false pa ++ behind) (na ++ (nb ++ nz)) (ready_behind c.functions ne na (nb ++ nz) (ready_behind c.functions (ne ++ na) nb nz ready))) (λ x d isx readyx.
+        bind ((stmt_reads p).at w d false behind (nb ++ nz) readyx (never behind else_no_finally)) (λ y g isy readyy.
+        bind (with_else q (not is_block) readyy fits) (λ z h isz readyz.
+        finishes_stmt here (s.If x y z) low (same_stmts here at (s.If x y z) form _ _ (s.outs-If x y z) is
         (ap (λ v. unplaced_parts (StmtForm-F.If x y v)) isz.is ∙ ap (λ v. StmtForm-F.If v (unplaced.stmt y) (Some (unplaced.stmt isz.tree))) isx.same ∙ ap (λ v. StmtForm-F.If (unplaced.expr e) v (Some (unplaced.stmt isz.tree))) isy.same
-        ∙ ap (λ v. StmtForm-F.If (unplaced.expr e) (unplaced.stmt a) (Some v)) isz.same.same)) readyz)))));
+        ∙ ap (λ v. StmtForm-F.If (unplaced.expr e) (unplaced.stmt a) (Some v)) isz.same.same)) readyz)))))) (omega arith);
   }
 
-  pub else_part : out-StmtForm form ≡ StmtForm-F.If e a (Some b) → Fit all 1 se true pe ne e → StmtPart all false pa na a → StmtPart all ends pb nb b
-      → StmtPart all ends (else_pieces pe pa pb is_block) ((ne ++ na) ++ nb) (record { at = at; form = form })
+  pub else_part : out-StmtForm form ≡ StmtForm-F.If e a (Some b) → Fit all be 1 se true pe ne e → StmtPart all ba false pa na a → StmtPart all bb ends pb nb b
+      → StmtPart all (max (max (suc be) (suc ba)) (suc bb)) ends (else_pieces pe pa pb is_block) ((ne ++ na) ++ nb) (record { at = at; form = form })
   else_part is f p q = record {
     flows = flows_last ((head_pieces (codes "if") pe ++ pa) ++ else_word is_block) pb q.flows;
     first = token_first (codes "if") false _ _ if_first;
-    bound = f.part.bound + p.bound + q.bound + 1;
     reads = else_reads is f p q;
   }
 
@@ -160,28 +158,27 @@ while_first : ends_list (form_of (codes "while")) ≡ false
 unfolding form_of reserved_word
 while_first = refl
 
-module _ {all : World} {se ends : Bool} {pe pa : List Piece} {ne na : Numbers} {e : Expr} {a : Stmt} (at : Place) (form : StmtForm) where
-  while_reads : out-StmtForm form ≡ StmtForm-F.While e a → (f : Fit all 1 se true pe ne e) (p : StmtPart all ends pa na a)
-      → Read all (f.part.bound + p.bound + 1) (head_pieces (codes "while") pe ++ pa) (ne ++ na) (IsStmt (record { at = at; form = form })) (NoElse ends) (S.statement grammar) give
+module _ {all : World} {be ba : ℕ} {se ends : Bool} {pe pa : List Piece} {ne na : Numbers} {e : Expr} {a : Stmt} (at : Place) (form : StmtForm) (low : LowStmt all (record { at = at; form = form })) where
+  while_reads : out-StmtForm form ≡ StmtForm-F.While e a → (f : Fit all be 1 se true pe ne e) (p : StmtPart all ba ends pa na a)
+      → Read all (max (suc be) (suc ba)) (head_pieces (codes "while") pe ++ pa) (ne ++ na) (IsStmt (record { at = at; form = form })) (NoElse ends) (S.statement grammar) give
   unfolding S.while_behind
   while_reads is f p = record {
-    at = λ w c line rest nz room ready fits.
-        let q = (c.supply 0).0 in
+    at = λ w c line rest nz ready fits.
+        exactly (let q = (c.supply 0).0 in
         let o = after c (shape (form_of (codes "while")) line) in
         on (split_head (codes "while") pe pa f.part.flows line rest)
         (begins_with {c = c} (codes "while") S.While while_begins
-        (bind (head_reads f w o (tokens_from false pa ++ rest) (na ++ nz) (omega (arith, room)) (ready_behind c.functions ne na nz ready)) (λ x d isx readyx.
-        bind ((stmt_reads p).at w d false rest nz (omega (arith, room)) readyx fits) (λ y g isy readyy.
-        finishes_stmt q (s.While x y) (same_stmts q at (s.While x y) form _ _ (s.outs-While x y) is
-        (ap (λ v. StmtForm-F.While v (unplaced.stmt y)) isx.same ∙ ap (λ v. StmtForm-F.While (unplaced.expr e) v) isy.same)) readyy))));
+        (bind (head_reads f w o (tokens_from false pa ++ rest) (na ++ nz) (ready_behind c.functions ne na nz ready)) (λ x d isx readyx.
+        bind ((stmt_reads p).at w d false rest nz readyx fits) (λ y g isy readyy.
+        finishes_stmt q (s.While x y) low (same_stmts q at (s.While x y) form _ _ (s.outs-While x y) is
+        (ap (λ v. StmtForm-F.While v (unplaced.stmt y)) isx.same ∙ ap (λ v. StmtForm-F.While (unplaced.expr e) v) isy.same)) readyy))))) (omega arith);
   }
 
-  pub while_part : out-StmtForm form ≡ StmtForm-F.While e a → Fit all 1 se true pe ne e → StmtPart all ends pa na a
-      → StmtPart all ends (head_pieces (codes "while") pe ++ pa) (ne ++ na) (record { at = at; form = form })
+  pub while_part : out-StmtForm form ≡ StmtForm-F.While e a → Fit all be 1 se true pe ne e → StmtPart all ba ends pa na a
+      → StmtPart all (max (suc be) (suc ba)) ends (head_pieces (codes "while") pe ++ pa) (ne ++ na) (record { at = at; form = form })
   while_part is f p = record {
     flows = flows_last (head_pieces (codes "while") pe) pa p.flows;
     first = token_first (codes "while") false _ _ while_first;
-    bound = f.part.bound + p.bound + 1;
     reads = while_reads is f p;
   }
 
@@ -224,30 +221,29 @@ module _ (pe pa : List Piece) (in_brace : Bool) where
       ∙ spread pa ((line_end_unless in_brace ++ head_pieces (codes "while") pe) ++ closing (codes ";")) fa false rest
       ∙ ap (λ zs. tokens_from false pa ++ zs) (split_while in_brace rest fe))
 
-module _ {all : World} {se ends : Bool} {pe pa : List Piece} {ne na : Numbers} {e : Expr} {a : Stmt} (at : Place) (form : StmtForm) (in_brace : Bool) where
-  do_reads : out-StmtForm form ≡ StmtForm-F.DoWhile a e → (f : Fit all 1 se true pe ne e) (p : StmtPart all ends pa na a)
-      → Read all (f.part.bound + p.bound + 1) (do_pieces pe pa in_brace) (na ++ ne) (IsStmt (record { at = at; form = form })) (NoElse false) (S.statement grammar) give
+module _ {all : World} {be ba : ℕ} {se ends : Bool} {pe pa : List Piece} {ne na : Numbers} {e : Expr} {a : Stmt} (at : Place) (form : StmtForm) (low : LowStmt all (record { at = at; form = form })) (in_brace : Bool) where
+  do_reads : out-StmtForm form ≡ StmtForm-F.DoWhile a e → (f : Fit all be 1 se true pe ne e) (p : StmtPart all ba ends pa na a)
+      → Read all (max (suc ba) (suc be)) (do_pieces pe pa in_brace) (na ++ ne) (IsStmt (record { at = at; form = form })) (NoElse false) (S.statement grammar) give
   unfolding S.do_behind
   do_reads is f p = record {
-    at = λ w c line rest nz room ready fits.
-        let q = (c.supply 0).0 in
+    at = λ w c line rest nz ready fits.
+        exactly (let q = (c.supply 0).0 in
         let o = after c (shape (form_of (codes "do")) line) in
         let head_shapes = left_parenthesis ∷ (tokens_from false pe ++ (right_parenthesis ∷ (semicolon ∷ rest))) in
         let w_shape = shape (form_of (codes "while")) (not in_brace) in
         on (split_do pe pa in_brace line rest f.part.flows p.flows)
         (begins_with {c = c} (codes "do") S.Do do_begins
-        (bind ((stmt_reads p).at w o false (w_shape ∷ head_shapes) (ne ++ nz) (omega (arith, room)) (ready_behind c.functions na ne nz ready) (record { holds = λ _. while_no_else; no_finally = while_no_finally })) (λ y g isy readyy.
+        (bind ((stmt_reads p).at w o false (w_shape ∷ head_shapes) (ne ++ nz) (ready_behind c.functions na ne nz ready) (record { holds = λ _. while_no_else; no_finally = while_no_finally })) (λ y g isy readyy.
         expected {s = w_shape} Marks.while_word tt _ while_is
-        (bind (head_reads f w (after g w_shape) (semicolon ∷ rest) nz (omega (arith, room)) readyy) (λ x d isx readyx.
+        (bind (head_reads f w (after g w_shape) (semicolon ∷ rest) nz readyy) (λ x d isx readyx.
         ended {c = d} (λ last. continues_do) (λ _. finish_stmt q (s.DoWhile y x))
-        (finishes_stmt q (s.DoWhile y x) (same_stmts q at (s.DoWhile y x) form _ _ (s.outs-DoWhile y x) is
-        (ap (λ v. StmtForm-F.DoWhile v (unplaced.expr x)) isy.same ∙ ap (λ v. StmtForm-F.DoWhile (unplaced.stmt a) v) isx.same)) readyx))))));
+        (finishes_stmt q (s.DoWhile y x) low (same_stmts q at (s.DoWhile y x) form _ _ (s.outs-DoWhile y x) is
+        (ap (λ v. StmtForm-F.DoWhile v (unplaced.expr x)) isy.same ∙ ap (λ v. StmtForm-F.DoWhile (unplaced.stmt a) v) isx.same)) readyx))))))) (omega arith);
   }
 
-  pub do_part : out-StmtForm form ≡ StmtForm-F.DoWhile a e → Fit all 1 se true pe ne e → StmtPart all ends pa na a → StmtPart all false (do_pieces pe pa in_brace) (na ++ ne) (record { at = at; form = form })
+  pub do_part : out-StmtForm form ≡ StmtForm-F.DoWhile a e → Fit all be 1 se true pe ne e → StmtPart all ba ends pa na a → StmtPart all (max (suc ba) (suc be)) false (do_pieces pe pa in_brace) (na ++ ne) (record { at = at; form = form })
   do_part is f p = record {
     flows = flows_last ((word (codes "do") ++ pa) ++ (line_end_unless in_brace ++ head_pieces (codes "while") pe)) (closing (codes ";")) (flows_token (codes ";") true _);
     first = token_first (codes "do") false _ _ do_first;
-    bound = f.part.bound + p.bound + 1;
     reads = do_reads is f p;
   }

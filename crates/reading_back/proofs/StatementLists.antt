@@ -1,5 +1,5 @@
 -- Lists of statements in braces (12.1).
-use Rattle.std.proofs.Common.{◌≡◌, ◌≤◌, ℕ, suc, ◌+◌, Bool, true, false, cond, List, [], ◌∷◌, ◌++◌, map, length, refl, ap, sym, ◌∙◌, subst, arith, append_assoc, append-nil}
+use Rattle.std.proofs.Common.{◌≡◌, ℕ, suc, ◌+◌, Bool, true, false, cond, List, [], ◌∷◌, ◌++◌, map, length, refl, ap, sym, ◌∙◌, subst, arith, append_assoc, append-nil}
 use Rattle.std.specs.Prelude.{◌||◌, ◌==◌, codes, Some, is_some, Result, Ok}
 use Rattle.std.proofs.lemmas.Bool.Decides.{nat_tests}
 use Rattle.std.proofs.lemmas.List.{map-append}
@@ -25,11 +25,12 @@ use Rattle.script_text.specs.Pieces.{Piece, LineEnd, Close, word, opening, closi
 use Rattle.script_text.specs.Statements.{Shown, lines, line, block, in_braces, begin_braces, end_braces, is_empty}
 use Rattle.script_text.specs.Tokens.{Shape, shape, form_of, tokens_from}
 use Rattle.reading_back.proofs.Claims.{World, Frame, Spot, rest_of, Leads, Ready, Flows}
-use Rattle.reading_back.proofs.StatementClaims.{IsStmt, ends_list, StmtFirst, is_else, is_finally, StmtPart}
+use Rattle.reading_back.proofs.StatementClaims.{LowStmt, IsStmt, ends_list, StmtFirst, is_else, is_finally, StmtPart}
 use Rattle.reading_back.specs.Unplaced as unplaced
 use Rattle.reading_back.proofs.Flowing.{flows_last, flows_token, spread}
 use Rattle.reading_back.proofs.StatementSteps.{same_stmts, begins_with, token_first, finishes_stmt, stmt_reads}
-use Rattle.reading_back.proofs.Steps.{after, from, on, become, stays, bind, expected}
+use Rattle.script_nesting.specs.Opened.{of_stmts}
+use Rattle.reading_back.proofs.Steps.{exactly, after, from, on, become, stays, bind, expected}
 use Rattle.reading_back.proofs.TwoOperands.{ready_behind}
 
 -- the same but for places
@@ -49,7 +50,8 @@ pub record Line (all : World) : Type 0 where
   pub numbers : Numbers
   pub tree : Stmt
   pub ends_in_if : Bool
-  pub part : StmtPart all ends_in_if shown.pieces numbers tree
+  pub bound : ℕ
+  pub part : StmtPart all bound ends_in_if shown.pieces numbers tree
 
 no_else_shape : (t : TokenForm) → ends_list t ≡ false → (is_some (Marks.else_word t) || is_some (Marks.finally_word t)) ≡ false
 no_else_shape t e =
@@ -72,8 +74,7 @@ no_finally (s ∷ ss) e = by (is_some (Marks.else_word s.form)) (is_some (Marks.
 
 module _ {all : World} where
   abbrev pub bound_lines : List (Line all) → ℕ
-  bound_lines [] = 0
-  bound_lines (x ∷ xs) = x.part.bound + 1 + bound_lines xs
+  bound_lines xs = of_stmts (map (λ (x : Line all). x.bound) xs)
 
   abbrev pub shown_lines : List (Line all) → List Shown
   shown_lines xs = map (λ (x : Line all). x.shown) xs
@@ -120,26 +121,26 @@ module _ {all : World} (closed : Reading Bool) (unrolls : Unrolls (B.more_statem
       ∙ ap (λ zs. (part grammar.statement >>= λ x. again closed (so_far ++ (x ∷ []))) (rest_of w c zs)) (sym is)
 
   nothing_more : (model so_far : List Stmt) (w : Frame all) (c : Spot) (zs : List Shape) (nz : Numbers) → AreStmts model so_far → Ready w c.functions nz → closed (rest_of w c zs) ≡ Ok (true, rest_of w c zs)
-      → Leads w nz (AreStmts (model ++ [])) c zs zs (again closed so_far) give
+      → Leads w.opened w nz (AreStmts (model ++ [])) c zs zs (again closed so_far) give
   nothing_more model so_far w c zs nz same ready closes =
-      from {d = c} (unrolls so_far (rest_of w c zs) ∙ ap (turn closed so_far) closes)
-      (stays so_far give (record { same = same.same ∙ ap (map unplaced.stmt) (sym (append-nil model)) }) ready)
+      exactly (from {d = c} (unrolls so_far (rest_of w c zs) ∙ ap (turn closed so_far) closes)
+      (stays so_far give (record { same = same.same ∙ ap (map unplaced.stmt) (sym (append-nil model)) }) ready)) (omega arith)
 
   -- where the closing token comes
   pub lines_read : (xs : List (Line all)) (model so_far : List Stmt) (w : Frame all) (c : Spot) (more : List Piece) (rest : List Shape) (nz : Numbers) → AreStmts model so_far
-      → w.opened + bound_lines xs ≤ w.limit → Ready w c.functions (numbers_lines xs ++ nz) → is_else (tokens_from true more ++ rest) ≡ false
+      → Ready w c.functions (numbers_lines xs ++ nz) → is_else (tokens_from true more ++ rest) ≡ false
       → ((d : Spot) → closed (rest_of w d (tokens_from true more ++ rest)) ≡ Ok (true, rest_of w d (tokens_from true more ++ rest)))
-      → Leads w nz (AreStmts (model ++ tree_lines xs)) c (tokens_from true (pieces_lines xs ++ more) ++ rest) (tokens_from true more ++ rest) (again closed so_far) give
-  lines_read [] model so_far w c more rest nz same room ready no_else closes = nothing_more model so_far w c (tokens_from true more ++ rest) nz same ready (closes c)
-  lines_read (x ∷ xs) model so_far w c more rest nz same room ready no_else closes =
-      let f = x.part.first in
+      → Leads (w.opened + bound_lines xs) w nz (AreStmts (model ++ tree_lines xs)) c (tokens_from true (pieces_lines xs ++ more) ++ rest) (tokens_from true more ++ rest) (again closed so_far) give
+  lines_read [] model so_far w c more rest nz same ready no_else closes = exactly (nothing_more model so_far w c (tokens_from true more ++ rest) nz same ready (closes c)) (omega arith)
+  lines_read (x ∷ xs) model so_far w c more rest nz same ready no_else closes =
+      exactly (let f = x.part.first in
       let behind_it = tokens_from true (pieces_lines xs ++ more) ++ rest in
       on (spread_lines x xs more rest)
       (from {d = c} (one_more w c so_far f.form true (f.more ++ behind_it) _ f.begins (ap (λ zs. zs ++ behind_it) (f.is true)))
-      (bind ((stmt_reads x.part).at w c true behind_it (numbers_lines xs ++ nz) (omega (arith, room)) (ready_behind c.functions x.numbers (numbers_lines xs) nz ready)
+      (bind ((stmt_reads x.part).at w c true behind_it (numbers_lines xs ++ nz) (ready_behind c.functions x.numbers (numbers_lines xs) nz ready)
       (record { holds = λ _. no_else_lines xs more rest no_else; no_finally = no_finally behind_it (no_else_lines xs more rest no_else) })) (λ y d is done.
       become (λ b h. subst (λ ts. AreStmts ts b) (append_assoc model (x.tree ∷ []) (tree_lines xs)) h)
-      (lines_read xs (model ++ (x.tree ∷ [])) (so_far ++ (y ∷ [])) w d more rest nz (are_more_stmts model so_far x.tree y same is) (omega (arith, room)) done no_else closes))))
+      (lines_read xs (model ++ (x.tree ∷ [])) (so_far ++ (y ∷ [])) w d more rest nz (are_more_stmts model so_far x.tree y same is) done no_else closes))))) (omega arith)
 
 -- ---- in braces
 
@@ -180,28 +181,28 @@ module _ {all : World} where
   block_is x xs = ap (λ b. in_braces b (pieces_lines (x ∷ xs))) (not_empty x.shown (shown_lines xs))
 
   -- behind the brace that opens
-  pub braces_read : (xs : List (Line all)) (w : Frame all) (c : Spot) (rest : List Shape) (nz : Numbers) → w.opened + bound_lines xs ≤ w.limit → Ready w c.functions (numbers_lines xs ++ nz)
-      → Leads w nz (AreStmts (tree_lines xs)) c (tokens_from true (pieces_lines xs ++ end_braces) ++ rest) rest (B.statements_behind_brace grammar) give
+  pub braces_read : (xs : List (Line all)) (w : Frame all) (c : Spot) (rest : List Shape) (nz : Numbers) → Ready w c.functions (numbers_lines xs ++ nz)
+      → Leads (w.opened + bound_lines xs) w nz (AreStmts (tree_lines xs)) c (tokens_from true (pieces_lines xs ++ end_braces) ++ rest) rest (B.statements_behind_brace grammar) give
   unfolding B.statements_behind_brace B.statements
-  braces_read xs w c rest nz room ready =
-      bind {Is = AreStmts (tree_lines xs)} (lines_read (sees Marks.right_brace) repeated.statements brace_goes_on xs [] [] w c end_braces rest nz (record { same = refl }) room ready right_brace_no_else (λ d. brace_closes w d true rest)) (λ ys d are done.
-      expected Marks.right_brace tt (λ _. give ys) right_brace_is (stays ys give are done))
+  braces_read xs w c rest nz ready =
+      exactly (bind {Is = AreStmts (tree_lines xs)} (lines_read (sees Marks.right_brace) repeated.statements brace_goes_on xs [] [] w c end_braces rest nz (record { same = refl }) ready right_brace_no_else (λ d. brace_closes w d true rest)) (λ ys d are done.
+      expected Marks.right_brace tt (λ _. give ys) right_brace_is (stays ys give are done))) (omega arith)
 
   pub empty_read : (w : Frame all) (c : Spot) (rest : List Shape) (nz : Numbers) → Ready w c.functions nz
-      → Leads w nz (AreStmts []) c (shape (form_of (codes "}")) false ∷ rest) rest (B.statements_behind_brace grammar) give
+      → Leads w.opened w nz (AreStmts []) c (shape (form_of (codes "}")) false ∷ rest) rest (B.statements_behind_brace grammar) give
   unfolding B.statements_behind_brace B.statements
   empty_read w c rest nz ready =
-      bind {Is = AreStmts []} (nothing_more (sees Marks.right_brace) repeated.statements brace_goes_on [] [] w c (shape (form_of (codes "}")) false ∷ rest) nz (record { same = refl }) ready (brace_closes w c false rest)) (λ ys d are done.
-      expected Marks.right_brace tt (λ _. give ys) right_brace_is (stays ys give are done))
+      exactly (bind {Is = AreStmts []} (nothing_more (sees Marks.right_brace) repeated.statements brace_goes_on [] [] w c (shape (form_of (codes "}")) false ∷ rest) nz (record { same = refl }) ready (brace_closes w c false rest)) (λ ys d are done.
+      expected Marks.right_brace tt (λ _. give ys) right_brace_is (stays ys give are done))) (omega arith)
 
   -- the pieces of a block
-  pub block_reads : (xs : List (Line all)) (begins : Bool) (w : Frame all) (c : Spot) (rest : List Shape) (nz : Numbers) → w.opened + bound_lines xs ≤ w.limit → Ready w c.functions (numbers_lines xs ++ nz)
-      → Leads w nz (AreStmts (tree_lines xs)) c (tokens_from begins (block (λ s. s) (shown_lines xs)) ++ rest) rest (B.braced grammar) give
-  block_reads [] begins w c rest nz room ready =
-      expected {s = shape (form_of (codes "{")) begins} Marks.left_brace tt (λ _. B.statements_behind_brace grammar) left_brace_is (empty_read w (after c (shape (form_of (codes "{")) begins)) rest nz ready)
-  block_reads (x ∷ xs) begins w c rest nz room ready =
-      on (ap (λ ps. tokens_from begins ps ++ rest) (block_is x xs))
-      (expected {s = shape (form_of (codes "{")) begins} Marks.left_brace tt (λ _. B.statements_behind_brace grammar) left_brace_is (braces_read (x ∷ xs) w (after c (shape (form_of (codes "{")) begins)) rest nz room ready))
+  pub block_reads : (xs : List (Line all)) (begins : Bool) (w : Frame all) (c : Spot) (rest : List Shape) (nz : Numbers) → Ready w c.functions (numbers_lines xs ++ nz)
+      → Leads (w.opened + bound_lines xs) w nz (AreStmts (tree_lines xs)) c (tokens_from begins (block (λ s. s) (shown_lines xs)) ++ rest) rest (B.braced grammar) give
+  block_reads [] begins w c rest nz ready =
+      exactly (expected {s = shape (form_of (codes "{")) begins} Marks.left_brace tt (λ _. B.statements_behind_brace grammar) left_brace_is (empty_read w (after c (shape (form_of (codes "{")) begins)) rest nz ready)) (omega arith)
+  block_reads (x ∷ xs) begins w c rest nz ready =
+      exactly (on (ap (λ ps. tokens_from begins ps ++ rest) (block_is x xs))
+      (expected {s = shape (form_of (codes "{")) begins} Marks.left_brace tt (λ _. B.statements_behind_brace grammar) left_brace_is (braces_read (x ∷ xs) w (after c (shape (form_of (codes "{")) begins)) rest nz ready))) (omega arith)
 
   pub block_flows : (xs : List (Line all)) → Flows (block (λ s. s) (shown_lines xs))
   block_flows [] = flows_last (opening (codes "{")) (closing (codes "}")) (flows_token (codes "}") true _)
@@ -217,9 +218,9 @@ block_first : ends_list (form_of (codes "{")) ≡ false
 unfolding form_of reserved_word
 block_first = refl
 
-module _ {all : World} (at : Place) (form : StmtForm) (xs : List (Line all)) where
-  pub block_part : out-StmtForm form ≡ StmtForm-F.Block (tree_lines xs) → StmtPart all false (block (λ s. s) (shown_lines xs)) (numbers_lines xs) (record { at = at; form = form })
-  block_part is = record { flows = block_flows xs; first = first xs; bound = bound_lines xs; reads = record { at = λ w c line rest nz room ready fits. by xs is w c line rest nz room ready } }
+module _ {all : World} (at : Place) (form : StmtForm) (low : LowStmt all (record { at = at; form = form })) (xs : List (Line all)) where
+  pub block_part : out-StmtForm form ≡ StmtForm-F.Block (tree_lines xs) → StmtPart all (bound_lines xs) false (block (λ s. s) (shown_lines xs)) (numbers_lines xs) (record { at = at; form = form })
+  block_part is = record { flows = block_flows xs; first = first xs; reads = record { at = λ w c line rest nz ready fits. by xs is w c line rest nz ready } }
     where
       first : (ys : List (Line all)) → StmtFirst (block (λ s. s) (shown_lines ys))
       first [] = token_first (codes "{") false _ _ block_first
@@ -228,14 +229,14 @@ module _ {all : World} (at : Place) (form : StmtForm) (xs : List (Line all)) whe
       finish : (ys : List (Line all)) (us : List Stmt) (p : Place) → out-StmtForm form ≡ StmtForm-F.Block (tree_lines ys) → AreStmts (tree_lines ys) us → IsStmt (record { at = at; form = form }) (record { at = p; form = s.Block us })
       finish ys us p e are = same_stmts p at (s.Block us) form _ _ (s.outs-Block us) e (ap (λ v. StmtForm-F.Block v) are.same)
 
-      by : (ys : List (Line all)) → out-StmtForm form ≡ StmtForm-F.Block (tree_lines ys) → (w : Frame all) (c : Spot) (begins : Bool) (rest : List Shape) (nz : Numbers) → w.opened + bound_lines ys ≤ w.limit
+      by : (ys : List (Line all)) → out-StmtForm form ≡ StmtForm-F.Block (tree_lines ys) → (w : Frame all) (c : Spot) (begins : Bool) (rest : List Shape) (nz : Numbers)
           → Ready w c.functions (numbers_lines ys ++ nz)
-          → Leads w nz (IsStmt (record { at = at; form = form })) c (tokens_from begins (block (λ s. s) (shown_lines ys)) ++ rest) rest (S.statement grammar) give
-      by [] e w c begins rest nz room ready =
-          begins_with {c = c} (codes "{") S.Block block_begins
+          → Leads (w.opened + bound_lines ys) w nz (IsStmt (record { at = at; form = form })) c (tokens_from begins (block (λ s. s) (shown_lines ys)) ++ rest) rest (S.statement grammar) give
+      by [] e w c begins rest nz ready =
+          exactly (begins_with {c = c} (codes "{") S.Block block_begins
           (bind (empty_read w (after c (shape (form_of (codes "{")) begins)) rest nz ready) (λ us d are done.
-          finishes_stmt (c.supply 0).0 (s.Block us) (finish [] us (c.supply 0).0 e are) done))
-      by (y ∷ ys) e w c begins rest nz room ready =
-          on (ap (λ ps. tokens_from begins ps ++ rest) (block_is y ys)) (begins_with {c = c} (codes "{") S.Block block_begins
-          (bind (braces_read (y ∷ ys) w (after c (shape (form_of (codes "{")) begins)) rest nz room ready) (λ us d are done.
-          finishes_stmt (c.supply 0).0 (s.Block us) (finish (y ∷ ys) us (c.supply 0).0 e are) done)))
+          finishes_stmt (c.supply 0).0 (s.Block us) low (finish [] us (c.supply 0).0 e are) done))) (omega arith)
+      by (y ∷ ys) e w c begins rest nz ready =
+          exactly (on (ap (λ ps. tokens_from begins ps ++ rest) (block_is y ys)) (begins_with {c = c} (codes "{") S.Block block_begins
+          (bind (braces_read (y ∷ ys) w (after c (shape (form_of (codes "{")) begins)) rest nz ready) (λ us d are done.
+          finishes_stmt (c.supply 0).0 (s.Block us) low (finish (y ∷ ys) us (c.supply 0).0 e are) done)))) (omega arith)

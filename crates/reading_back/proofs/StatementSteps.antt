@@ -1,18 +1,11 @@
 -- Steps of statements: the token that begins one, heads in parentheses, parts that are statements, and the semicolon at the end.
-use Rattle.std.proofs.Common.{◌≡◌, ◌≤◌, ℕ, ◌+◌, Bool, true, false, List, ◌∷◌, ◌++◌, refl, ap, sym, ◌∙◌, arith, append_assoc}
-use Rattle.std.specs.Prelude.{codes, Option, Some}
-use Rattle.std.specs.Option.{option_map}
+use Rattle.std.proofs.Common.{◌≡◌, ℕ, ◌+◌, Bool, true, false, List, ◌∷◌, ◌++◌, refl, ap, ◌∙◌, arith, append_assoc, suc}
+use Rattle.std.specs.Prelude.{codes, Option, Some, Ok}
 use Rattle.js_value.specs.declared.place.Place.{Place}
 use Rattle.js_tree.specs.Lexing.{reserved_word}
-use Rattle.js_tree.specs.Refusals.{place}
 use Rattle.js_tree.specs.declared.expression.Expr.{Expr}
-use Rattle.js_tree.specs.declared.statement.Case.{Case, roll-Case}
-use Rattle.js_tree.specs.declared.statement.Catch.{Catch}
-use Rattle.js_tree.specs.declared.statement.Finally.{Finally, roll-Finally}
 use Rattle.js_tree.specs.declared.statement.Stmt.{Stmt}
-use Rattle.js_tree.specs.declared.statement.StmtForm.{StmtForm, roll-StmtForm, out-StmtForm}
-use Rattle.js_tree.specs.declared.statement.StmtForm.TheFolds.{map-StmtForm, fold-StmtForm, fold-Case, fold-Catch, fold-Finally, fold_out-StmtForm, fold_out-Stmt}
-use Rattle.js_tree.specs.declared.statement.StmtForm.TheOpen.{StmtForm-F, Case-F, Finally-F}
+use Rattle.js_tree.specs.declared.statement.StmtForm.{StmtForm}
 use Rattle.js_tree.specs.declared.token.Token.{Token}
 use Rattle.js_tree.specs.declared.token.TokenForm.{TokenForm}
 use Rattle.js_grammar.specs.Ends.{ends}
@@ -27,52 +20,13 @@ use Rattle.script_text.specs.Pieces as piece
 use Rattle.script_text.specs.Pieces.{Piece, word, opening, closing}
 use Rattle.script_text.specs.Tokens.{Shape, shape, form_of, tokens_from}
 use Rattle.reading_back.proofs.Claims.{World, Frame, Spot, rest_of, deeper, Leads, Ready, Read, Flows, IsExpr, Fit}
-use Rattle.reading_back.proofs.StatementClaims.{IsStmt, ends_list, StmtFirst, NoElse, StmtPart}
-use Rattle.reading_back.specs.Unplaced as unplaced
+use Rattle.reading_back.proofs.Passing.{stmt_passes}
+use Rattle.reading_back.proofs.StatementClaims.{IsStmt, LowStmt, ends_list, StmtFirst, NoElse, StmtPart}
 use Rattle.reading_back.proofs.Flowing.{spread}
+pub use Rattle.reading_back.proofs.SameStatements.{StmtLayer, of_case, of_finally, unplaced_form, unplaced_case, unplaced_catch, unplaced_finally, unplaced_parts, same_stmts}
 use Rattle.reading_back.proofs.Groups.{expression_reads, right_parenthesis_is, right_parenthesis_joins}
 use Rattle.reading_back.proofs.Members.{parenthesis_mark}
-use Rattle.reading_back.proofs.Steps.{after, from, stays, bind, expected, parted, opens, next_some}
-
--- ---- statements that are the same but for places
-
-abbrev pub StmtLayer : Type 0
-StmtLayer = StmtForm-F StmtForm Case Catch Finally Stmt
-
-abbrev pub of_case : Case-F StmtForm Case Catch Finally Stmt → Case
-of_case c = roll-Case (record { test = option_map unplaced.expr c.test; body = c.body })
-
-abbrev pub of_finally : Finally-F StmtForm Case Catch Finally Stmt → Finally
-of_finally f = roll-Finally f
-
-abbrev pub unplaced_form : StmtForm → StmtForm
-unplaced_form = fold-StmtForm StmtForm Case Catch Finally Stmt unplaced.of_stmt_form of_case unplaced.of_catch of_finally unplaced.of_stmt
-
-abbrev pub unplaced_case : Case → Case
-unplaced_case = fold-Case StmtForm Case Catch Finally Stmt unplaced.of_stmt_form of_case unplaced.of_catch of_finally unplaced.of_stmt
-
-abbrev pub unplaced_catch : Catch → Catch
-unplaced_catch = fold-Catch StmtForm Case Catch Finally Stmt unplaced.of_stmt_form of_case unplaced.of_catch of_finally unplaced.of_stmt
-
-abbrev pub unplaced_finally : Finally → Finally
-unplaced_finally = fold-Finally StmtForm Case Catch Finally Stmt unplaced.of_stmt_form of_case unplaced.of_catch of_finally unplaced.of_stmt
-
--- the parts without their places
-abbrev pub unplaced_parts : StmtLayer → StmtLayer
-unplaced_parts layer = unplaced.in_stmt_form (map-StmtForm StmtForm Case Catch Finally Stmt StmtForm Case Catch Finally Stmt unplaced_form unplaced_case unplaced_catch unplaced_finally unplaced.stmt layer)
-
-unplaced_is : (at : Place) (form : StmtForm) (layer : StmtLayer) → out-StmtForm form ≡ layer → unplaced.stmt (record { at = at; form = form }) ≡ unplaced.of_stmt (record { at = at; form = unplaced.of_stmt_form (map-StmtForm StmtForm Case Catch Finally Stmt StmtForm Case Catch Finally Stmt unplaced_form unplaced_case unplaced_catch unplaced_finally unplaced.stmt layer) })
-unplaced_is at form layer e =
-    fold_out-Stmt StmtForm Case Catch Finally Stmt unplaced.of_stmt_form of_case unplaced.of_catch of_finally unplaced.of_stmt (record { at = at; form = form })
-    ∙ ap (λ (f : StmtForm). unplaced.of_stmt (record { at = at; form = f })) (fold_out-StmtForm StmtForm Case Catch Finally Stmt unplaced.of_stmt_form of_case unplaced.of_catch of_finally unplaced.of_stmt form
-    ∙ ap (λ (l : StmtLayer). unplaced.of_stmt_form (map-StmtForm StmtForm Case Catch Finally Stmt StmtForm Case Catch Finally Stmt unplaced_form unplaced_case unplaced_catch unplaced_finally unplaced.stmt l)) e)
-
--- the same form with parts that are the same
-pub same_stmts : (at other : Place) (form model : StmtForm) (layer mold : StmtLayer) → out-StmtForm form ≡ layer → out-StmtForm model ≡ mold → unplaced_parts layer ≡ unplaced_parts mold
-    → IsStmt (record { at = other; form = model }) (record { at = at; form = form })
-same_stmts at other form model layer mold e f same = record {
-  same = unplaced_is at form layer e ∙ ap (λ (l : StmtLayer). unplaced.of_stmt (record { at = place 0; form = roll-StmtForm l })) same ∙ sym (unplaced_is other model mold f);
-}
+use Rattle.reading_back.proofs.Steps.{exactly, after, from, stays, bind, expected, parted, opens, next_some}
 
 -- ---- tokens
 
@@ -94,20 +48,24 @@ pub token_first : (text : List ℕ) (is_tight : Bool) (gap : _) (pieces : List P
 token_first text is_tight gap pieces e = record { form = form_of text; more = tokens_from false pieces; is = λ line. refl; begins = e }
 
 module _ {all : World} {w : Frame all} where
-  pub finishes_stmt : {nb : Numbers} {Is : Stmt → Type 0} {c : Spot} {rest : List Shape} (at : Place) (form : StmtForm) → Is (record { at = at; form = form }) → Ready w c.functions nb
-      → Leads w nb Is c rest rest (finish_stmt at form) give
+  allowed : {nb : Numbers} (c : Spot) {t : Stmt} (zs : List Shape) (at : Place) (form : StmtForm) → LowStmt all t → IsStmt t (record { at = at; form = form }) → Ready w c.functions nb
+      → finish_stmt at form (rest_of w c zs) ≡ Ok (record { at = at; form = form }, rest_of w c zs)
   unfolding finish_stmt
-  finishes_stmt at form is ready = from refl (stays (record { at = at; form = form }) give is ready)
+  allowed {nb = nb} c {t = t} zs at form low is ready = rw (stmt_passes c.functions nb ready t (record { at = at; form = form }) is low) refl
+
+  pub finishes_stmt : {nb : Numbers} {c : Spot} {t : Stmt} {rest : List Shape} (at : Place) (form : StmtForm) → LowStmt all t → IsStmt t (record { at = at; form = form }) → Ready w c.functions nb
+      → Leads w.opened w nb (IsStmt t) c rest rest (finish_stmt at form) give
+  finishes_stmt {c = c} {t = t} {rest = rest} at form low is ready = from (allowed c {t = t} rest at form low is ready) (stays (record { at = at; form = form }) give is ready)
 
   -- a statement that begins with a token of its own
-  pub begins_with : {A : Type 0} {nb : Numbers} {Is : A → Type 0} {c : Spot} {line : Bool} {front rest : List Shape} {k : A → Reading Stmt} (text : List ℕ) (first : S.Beginning) → S.beginning (form_of text) ≡ Some first
-      → Leads w nb Is (after c (shape (form_of text) line)) front rest (S.begun grammar (c.supply 0).0 first) k → Leads w nb Is c (shape (form_of text) line ∷ front) rest (S.statement grammar) k
+  pub begins_with : {A : Type 0} {l : ℕ} {nb : Numbers} {Is : A → Type 0} {c : Spot} {line : Bool} {front rest : List Shape} {k : A → Reading Stmt} (text : List ℕ) (first : S.Beginning) → S.beginning (form_of text) ≡ Some first
+      → Leads l w nb Is (after c (shape (form_of text) line)) front rest (S.begun grammar (c.supply 0).0 first) k → Leads l w nb Is c (shape (form_of text) line ∷ front) rest (S.statement grammar) k
   unfolding S.statement
   begins_with {c = c} {line = line} {front = front} text first e h = from (next_some S.beginning first (λ b. S.begun grammar (c.supply 0).0 b) (S.expression_here grammar) (rest_of w c (shape (form_of text) line ∷ front)) e) h
 
   -- the semicolon at the end of a statement (7.9)
-  pub ended : {A C : Type 0} {nb : Numbers} {Is : C → Type 0} {c : Spot} {front rest : List Shape} (continues : Option Token → TokenForm → Bool) (f : Unit {0} → Reading A) {k : C → Reading A}
-      → Leads w nb Is (after c semicolon) front rest (f tt) k → Leads w nb Is c (semicolon ∷ front) rest (ends continues >>= f) k
+  pub ended : {A C : Type 0} {l : ℕ} {nb : Numbers} {Is : C → Type 0} {c : Spot} {front rest : List Shape} (continues : Option Token → TokenForm → Bool) (f : Unit {0} → Reading A) {k : C → Reading A}
+      → Leads l w nb Is (after c semicolon) front rest (f tt) k → Leads l w nb Is c (semicolon ∷ front) rest (ends continues >>= f) k
   unfolding ends
   ended {c = c} {front = front} continues f h = from (ap (λ r. behind r f) (next_some Marks.semicolon tt give _ (rest_of w c (semicolon ∷ front)) semicolon_is)) h
 
@@ -122,23 +80,23 @@ split_head first pe more flows line rest =
     ap (λ zs. shape (form_of first) line ∷ (left_parenthesis ∷ zs))
     (ap (λ ps. tokens_from false ps ++ rest) (append_assoc pe (closing (codes ")")) more) ∙ spread pe (closing (codes ")") ++ more) flows false rest)
 
-module _ {all : World} {starts : Bool} {pieces : List Piece} {numbers : Numbers} {e : Expr} where
-  pub head_reads : (f : Fit all 1 starts true pieces numbers e) (w : Frame all) (c : Spot) (zs : List Shape) (nz : Numbers) → w.opened + (f.part.bound + 1) ≤ w.limit → Ready w c.functions (numbers ++ nz)
-      → Leads w nz (IsExpr e) c (left_parenthesis ∷ (tokens_from false pieces ++ (right_parenthesis ∷ zs))) zs (S.head grammar) give
+module _ {all : World} {bound : ℕ} {starts : Bool} {pieces : List Piece} {numbers : Numbers} {e : Expr} where
+  pub head_reads : (f : Fit all bound 1 starts true pieces numbers e) (w : Frame all) (c : Spot) (zs : List Shape) (nz : Numbers) → Ready w c.functions (numbers ++ nz)
+      → Leads (w.opened + suc bound) w nz (IsExpr e) c (left_parenthesis ∷ (tokens_from false pieces ++ (right_parenthesis ∷ zs))) zs (S.head grammar) give
   unfolding P.group_behind
-  head_reads f w c zs nz room ready =
-      expected Marks.left_parenthesis tt (λ _. P.group_behind grammar) parenthesis_mark.parenthesis_is
-      (parted (omega (arith, room)) (ap (λ ys. ys ++ (right_parenthesis ∷ zs)) (f.part.first.is false))
-      (bind ((expression_reads f.part).at (deeper w) (after c left_parenthesis) false (right_parenthesis ∷ zs) nz (omega (arith, room)) (opens c.functions (numbers ++ nz) ready) (omega (arith, right_parenthesis_joins true)))
-      (λ x d is done. expected Marks.right_parenthesis tt (λ _. give x) right_parenthesis_is (stays x give is done))))
+  head_reads f w c zs nz ready =
+      exactly (expected Marks.left_parenthesis tt (λ _. P.group_behind grammar) parenthesis_mark.parenthesis_is
+      (parted (ap (λ ys. ys ++ (right_parenthesis ∷ zs)) (f.part.first.is false))
+      (bind ((expression_reads f.part).at (deeper w) (after c left_parenthesis) false (right_parenthesis ∷ zs) nz (opens c.functions (numbers ++ nz) ready) (omega (arith, right_parenthesis_joins true)))
+      (λ x d is done. expected Marks.right_parenthesis tt (λ _. give x) right_parenthesis_is (stays x give is done))))) (omega arith)
 
 -- ---- parts that are statements
 
-module _ {all : World} {ends_in_if : Bool} {pieces : List Piece} {numbers : Numbers} {t : Stmt} where
-  pub stmt_reads : (p : StmtPart all ends_in_if pieces numbers t) → Read all (p.bound + 1) pieces numbers (IsStmt t) (NoElse ends_in_if) (part grammar.statement) give
+module _ {all : World} {bound : ℕ} {ends_in_if : Bool} {pieces : List Piece} {numbers : Numbers} {t : Stmt} where
+  pub stmt_reads : (p : StmtPart all bound ends_in_if pieces numbers t) → Read all (suc bound) pieces numbers (IsStmt t) (NoElse ends_in_if) (part grammar.statement) give
   stmt_reads p = record {
-    at = λ w c line rest nz room ready fits.
-        parted (omega (arith, room)) (ap (λ zs. zs ++ rest) (p.first.is line))
+    at = λ w c line rest nz ready fits.
+        exactly (parted (ap (λ zs. zs ++ rest) (p.first.is line))
         (from (tied.statement (rest_of (deeper w) c (tokens_from line pieces ++ rest)))
-        (p.reads.at (deeper w) c line rest nz (omega (arith, room)) (opens c.functions (numbers ++ nz) ready) fits));
+        (p.reads.at (deeper w) c line rest nz (opens c.functions (numbers ++ nz) ready) fits))) (omega arith);
   }

@@ -1,5 +1,5 @@
 -- `switch` (12.11).
-use Rattle.std.proofs.Common.{◌≡◌, ◌≤◌, ℕ, ◌+◌, Bool, true, false, List, [], ◌∷◌, ◌++◌, map, refl, ap, sym, ◌∙◌, subst, arith, append_assoc, append-nil}
+use Rattle.std.proofs.Common.{◌≡◌, ◌≤◌, ℕ, ◌+◌, Bool, true, false, List, [], ◌∷◌, ◌++◌, map, refl, ap, sym, ◌∙◌, subst, arith, append_assoc, append-nil, suc, max}
 use Rattle.std.specs.Prelude.{◌||◌, codes, Option, Some, None, is_some, Result, Ok, Err}
 use Rattle.std.specs.List.{flat_map}
 use Rattle.std.specs.Option.{option_map}
@@ -28,7 +28,7 @@ use Rattle.script_text.specs.Pieces.{Piece, Open, Close, LineEnd, word, closing}
 use Rattle.script_text.specs.Statements.{clause, in_switch, begin_braces, end_braces, is_empty}
 use Rattle.script_text.specs.Tokens.{Shape, shape, form_of, tokens_from}
 use Rattle.reading_back.proofs.Claims.{World, Frame, Spot, rest_of, Leads, Ready, Read, Flows, Fit}
-use Rattle.reading_back.proofs.StatementClaims.{IsStmt, ends_list, is_else, NoElse, StmtPart}
+use Rattle.reading_back.proofs.StatementClaims.{LowStmt, IsStmt, ends_list, is_else, NoElse, StmtPart}
 use Rattle.reading_back.specs.Unplaced as unplaced
 use Rattle.reading_back.proofs.Flowing.{flows_last, flows_token, spread}
 use Rattle.reading_back.proofs.Groups.{expression_reads}
@@ -36,7 +36,8 @@ use Rattle.reading_back.proofs.LooseOperators.{colon_is, colon_joins}
 use Rattle.reading_back.proofs.StatementFors.{Opt, opt_bound, opt_numbers, opt_tree}
 use Rattle.reading_back.proofs.StatementLists.{AreStmts, Line, bound_lines, pieces_lines, numbers_lines, tree_lines, GoesOn, lines_read, right_brace_is, left_brace_is, not_empty}
 use Rattle.reading_back.proofs.StatementSteps.{unplaced_case, same_stmts, begins_with, token_first, finishes_stmt, head_pieces, split_head, head_reads}
-use Rattle.reading_back.proofs.Steps.{after, from, on, become, stays, bind, take, miss, expected}
+use Rattle.script_nesting.specs.Highest.{highest}
+use Rattle.reading_back.proofs.Steps.{exactly, after, from, on, become, stays, bind, take, miss, expected}
 use Rattle.reading_back.proofs.TwoOperands.{ready_behind}
 
 -- ---- clauses as they are printed
@@ -84,8 +85,7 @@ module _ {all : World} where
   clauses_pieces cs = flat_map (λ c. c) (map clause_pieces cs)
 
   abbrev pub clauses_bound : List (Clause all) → ℕ
-  clauses_bound [] = 0
-  clauses_bound (c ∷ cs) = opt_bound c.test + bound_lines c.lines + clauses_bound cs
+  clauses_bound cs = highest (map (λ (c : Clause all). max (opt_bound c.test) (bound_lines c.lines)) cs)
 
   abbrev pub clauses_numbers : List (Clause all) → Numbers
   clauses_numbers [] = []
@@ -191,17 +191,17 @@ module _ {all : World} where
 
   -- behind the label
   case_lead : (c : Clause all) (cs : List (Clause all)) (test t : Option Expr) (w : Frame all) (d : Spot) (rest : List Shape) (nz : Numbers) → out-Case c.tree ≡ record { test = test; body = tree_lines c.lines }
-      → option_map unplaced.expr t ≡ option_map unplaced.expr test → w.opened + bound_lines c.lines ≤ w.limit → Ready w d.functions (numbers_lines c.lines ++ nz)
-      → Leads w nz (IsCase c.tree) d (behind_label c cs rest) (left_shapes cs rest) (S.case_behind grammar t) give
+      → option_map unplaced.expr t ≡ option_map unplaced.expr test → Ready w d.functions (numbers_lines c.lines ++ nz)
+      → Leads (w.opened + bound_lines c.lines) w nz (IsCase c.tree) d (behind_label c cs rest) (left_shapes cs rest) (S.case_behind grammar t) give
   unfolding B.statements
-  case_lead c cs test t w d rest nz is same room ready =
-      let more : List Piece = Close ∷ (clauses_pieces cs ++ end_braces) in
+  case_lead c cs test t w d rest nz is same ready =
+      exactly (let more : List Piece = Close ∷ (clauses_pieces cs ++ end_braces) in
       let f = ends_first cs rest in
       expected {c = d} {s = colon} Marks.colon tt _ colon_is
-      (bind {Is = AreStmts (tree_lines c.lines)} (lines_read closed repeated.case_statements case_goes_on c.lines [] [] w (after d colon) more rest nz (record { same = refl }) room ready (no_else_before _ f) (λ g. closes_before _ f w g)) (λ body g are done.
+      (bind {Is = AreStmts (tree_lines c.lines)} (lines_read closed repeated.case_statements case_goes_on c.lines [] [] w (after d colon) more rest nz (record { same = refl }) ready (no_else_before _ f) (λ g. closes_before _ f w g)) (λ body g are done.
       stays {c = g} (roll-Case (record { test = t; body = body })) give
       (same_cases c.tree (roll-Case (record { test = t; body = body })) (record { test = t; body = body }) (record { test = test; body = tree_lines c.lines }) (out-roll-Case (record { test = t; body = body })) is
-      (ap (λ v. roll-Case (record { test = v; body = map unplaced.stmt body })) same ∙ ap (λ v. roll-Case (record { test = option_map unplaced.expr test; body = v })) are.same)) done))
+      (ap (λ v. roll-Case (record { test = v; body = map unplaced.stmt body })) same ∙ ap (λ v. roll-Case (record { test = option_map unplaced.expr test; body = v })) are.same)) done))) (omega arith)
 
 -- ---- clauses one after another
 
@@ -236,52 +236,52 @@ module _ {all : World} (cs : List (Clause all)) (rest : List Shape) (nz : Number
   -- what is proved of the clauses behind one
   abbrev Go : Type 0
   Go =
-      (model so_far : List Case) (seen : Bool) (w : Frame all) (d : Spot) → AreCases model so_far → flag seen + defaults cs ≤ 1 → w.opened + clauses_bound cs ≤ w.limit → Ready w d.functions (clauses_numbers cs ++ nz)
-      → Leads w nz (AreCases (model ++ clauses_trees cs)) d (left_shapes cs rest) rest (again (so_far, seen)) give
+      (model so_far : List Case) (seen : Bool) (w : Frame all) (d : Spot) → AreCases model so_far → flag seen + defaults cs ≤ 1 → Ready w d.functions (clauses_numbers cs ++ nz)
+      → Leads (w.opened + clauses_bound cs) w nz (AreCases (model ++ clauses_trees cs)) d (left_shapes cs rest) rest (again (so_far, seen)) give
 
   module _ (go : Go) (c : Clause all) (model so_far : List Case) (w : Frame all) (d : Spot) (same : AreCases model so_far) where
-    behind_one : (seen : Bool) (x : Case) (f : Spot) → IsCase c.tree x → flag seen + defaults cs ≤ 1 → w.opened + clauses_bound cs ≤ w.limit → Ready w f.functions (clauses_numbers cs ++ nz)
-        → Leads w nz (AreCases (model ++ (c.tree ∷ clauses_trees cs))) f (left_shapes cs rest) rest (again (so_far ++ (x ∷ []), seen)) give
-    behind_one seen x f is few room ready =
-        become (λ b h. subst (λ es. AreCases es b) (append_assoc model (c.tree ∷ []) (clauses_trees cs)) h)
-        (go (model ++ (c.tree ∷ [])) (so_far ++ (x ∷ [])) seen w f (one_more model so_far c.tree x same is) few room ready)
+    behind_one : (seen : Bool) (x : Case) (f : Spot) → IsCase c.tree x → flag seen + defaults cs ≤ 1 → Ready w f.functions (clauses_numbers cs ++ nz)
+        → Leads (w.opened + clauses_bound cs) w nz (AreCases (model ++ (c.tree ∷ clauses_trees cs))) f (left_shapes cs rest) rest (again (so_far ++ (x ∷ []), seen)) give
+    behind_one seen x f is few ready =
+        exactly (become (λ b h. subst (λ es. AreCases es b) (append_assoc model (c.tree ∷ []) (clauses_trees cs)) h)
+        (go (model ++ (c.tree ∷ [])) (so_far ++ (x ∷ [])) seen w f (one_more model so_far c.tree x same is) few ready)) (omega arith)
 
     one_clause : (o : Option (Opt all)) (seen : Bool) → out-Case c.tree ≡ record { test = opt_tree o; body = tree_lines c.lines } → flag seen + (one_default o + defaults cs) ≤ 1
-        → w.opened + (opt_bound o + bound_lines c.lines + clauses_bound cs) ≤ w.limit → Ready w d.functions (((opt_numbers o ++ numbers_lines c.lines) ++ clauses_numbers cs) ++ nz)
-        → Leads w nz (AreCases (model ++ (c.tree ∷ clauses_trees cs))) d (tokens_from true ((clause (label_pieces o) (pieces_lines c.lines) ++ clauses_pieces cs) ++ end_braces) ++ rest) rest (again (so_far, seen)) give
-    one_clause None true is few room ready = absurd (omega (arith, few))
-    one_clause None false is few room ready =
-        let t = shape (form_of (codes "default")) true in
+        → Ready w d.functions (((opt_numbers o ++ numbers_lines c.lines) ++ clauses_numbers cs) ++ nz)
+        → Leads (w.opened + max (max (opt_bound o) (bound_lines c.lines)) (clauses_bound cs)) w nz (AreCases (model ++ (c.tree ∷ clauses_trees cs))) d (tokens_from true ((clause (label_pieces o) (pieces_lines c.lines) ++ clauses_pieces cs) ++ end_braces) ++ rest) rest (again (so_far, seen)) give
+    one_clause None true is few ready = absurd (omega (arith, few))
+    one_clause None false is few ready =
+        exactly (let t = shape (form_of (codes "default")) true in
         on (spread_default c cs rest)
         (from {d = d} (repeated.cases (so_far, false) (rest_of w d (t ∷ behind_label c cs rest)))
         (miss Marks.right_brace _ _ default_no_brace
         (miss Marks.case_word _ _ default_no_case
         (expected {c = d} {s = t} Marks.default_word tt _ default_is
-        (bind (case_lead c cs None None w (after d t) rest (clauses_numbers cs ++ nz) is refl (omega (arith, room)) (ready_behind d.functions (numbers_lines c.lines) (clauses_numbers cs) nz ready)) (λ x f isx readyx.
-        behind_one true x f isx (omega (arith, few)) (omega (arith, room)) readyx))))))
-    one_clause (Some o) seen is few room ready =
-        let t = shape (form_of (codes "case")) true in
+        (bind (case_lead c cs None None w (after d t) rest (clauses_numbers cs ++ nz) is refl (ready_behind d.functions (numbers_lines c.lines) (clauses_numbers cs) nz ready)) (λ x f isx readyx.
+        behind_one true x f isx (omega (arith, few)) readyx))))))) (omega arith)
+    one_clause (Some o) seen is few ready =
+        exactly (let t = shape (form_of (codes "case")) true in
         let no = o.numbers in
         let nl = numbers_lines c.lines in
         on (spread_case o c cs rest)
         (from {d = d} (repeated.cases (so_far, seen) (rest_of w d (t ∷ (tokens_from false o.pieces ++ behind_label c cs rest))))
         (miss Marks.right_brace _ _ case_no_brace
         (take {c = d} {s = t} Marks.case_word tt _ _ case_is_one
-        (bind (tested o is (after d t) (clauses_numbers cs ++ nz) (omega (arith, room)) (ready_behind d.functions no nl (clauses_numbers cs ++ nz) (ready_behind d.functions (no ++ nl) (clauses_numbers cs) nz ready))) (λ x f isx readyx.
-        behind_one seen x f isx (omega (arith, few)) (omega (arith, room)) readyx)))))
+        (bind (tested o is (after d t) (clauses_numbers cs ++ nz) (ready_behind d.functions no nl (clauses_numbers cs ++ nz) (ready_behind d.functions (no ++ nl) (clauses_numbers cs) nz ready))) (λ x f isx readyx.
+        behind_one seen x f isx (omega (arith, few)) readyx)))))) (omega arith)
       where
-        tested : (o : Opt all) → out-Case c.tree ≡ record { test = Some o.tree; body = tree_lines c.lines } → (d : Spot) (nb : Numbers) → w.opened + (o.fit.part.bound + bound_lines c.lines) ≤ w.limit → Ready w d.functions (o.numbers ++ (numbers_lines c.lines ++ nb))
-            → Leads w nb (IsCase c.tree) d (tokens_from false o.pieces ++ behind_label c cs rest) (left_shapes cs rest) (S.tested_case grammar) give
-        tested o is d nb room ready =
-            bind ((expression_reads o.fit.part).at w d false (behind_label c cs rest) (numbers_lines c.lines ++ nb) (omega (arith, room)) ready (omega (arith, colon_joins true))) (λ x f isx readyx.
-            case_lead c cs (Some o.tree) (Some x) w f rest nb is (ap Some isx.same) (omega (arith, room)) readyx)
+        tested : (o : Opt all) → out-Case c.tree ≡ record { test = Some o.tree; body = tree_lines c.lines } → (d : Spot) (nb : Numbers) → Ready w d.functions (o.numbers ++ (numbers_lines c.lines ++ nb))
+            → Leads (w.opened + max o.bound (bound_lines c.lines)) w nb (IsCase c.tree) d (tokens_from false o.pieces ++ behind_label c cs rest) (left_shapes cs rest) (S.tested_case grammar) give
+        tested o is d nb ready =
+            exactly (bind ((expression_reads o.fit.part).at w d false (behind_label c cs rest) (numbers_lines c.lines ++ nb) ready (omega (arith, colon_joins true))) (λ x f isx readyx.
+            case_lead c cs (Some o.tree) (Some x) w f rest nb is (ap Some isx.same) readyx)) (omega arith)
 
 clauses_lead : {all : World} (cs : List (Clause all)) (rest : List Shape) (nz : Numbers) → Go cs rest nz
-clauses_lead [] rest nz model so_far seen w d same few room ready =
-    from {d = d} (repeated.cases (so_far, seen) (rest_of w d (shape (form_of (codes "}")) true ∷ rest)))
+clauses_lead [] rest nz model so_far seen w d same few ready =
+    exactly (from {d = d} (repeated.cases (so_far, seen) (rest_of w d (shape (form_of (codes "}")) true ∷ rest)))
     (take {c = d} {s = shape (form_of (codes "}")) true} Marks.right_brace tt _ _ right_brace_is
-    (stays so_far give (record { same = same.same ∙ ap (map unplaced_case) (sym (append-nil model)) }) ready))
-clauses_lead (c ∷ cs) rest nz model so_far seen w d same few room ready = one_clause cs rest nz (clauses_lead cs rest nz) c model so_far w d same c.test seen c.tree_is few room ready
+    (stays so_far give (record { same = same.same ∙ ap (map unplaced_case) (sym (append-nil model)) }) ready))) (omega arith)
+clauses_lead (c ∷ cs) rest nz model so_far seen w d same few ready = exactly (one_clause cs rest nz (clauses_lead cs rest nz) c model so_far w d same c.test seen c.tree_is few ready) (omega arith)
 
 -- ---- the statement
 
@@ -305,33 +305,33 @@ module _ {all : World} where
   body_flows (c ∷ cs) = subst Flows (sym (body_is c cs)) (flows_last (begin_braces ++ clauses_pieces (c ∷ cs)) end_braces (flows_last (Close ∷ []) (word (codes "}")) (flows_token (codes "}") false _)))
 
   -- from the brace that opens
-  body_lead : (cs : List (Clause all)) (w : Frame all) (d : Spot) (rest : List Shape) (nz : Numbers) → defaults cs ≤ 1 → w.opened + clauses_bound cs ≤ w.limit → Ready w d.functions (clauses_numbers cs ++ nz)
-      → Leads w nz (AreCases (clauses_trees cs)) d (tokens_from false (body_pieces cs) ++ rest) rest (expect Marks.left_brace >>= λ _. again ([], false)) give
-  body_lead [] w d rest nz few room ready =
-      let b = shape (form_of (codes "{")) false in
+  body_lead : (cs : List (Clause all)) (w : Frame all) (d : Spot) (rest : List Shape) (nz : Numbers) → defaults cs ≤ 1 → Ready w d.functions (clauses_numbers cs ++ nz)
+      → Leads (w.opened + clauses_bound cs) w nz (AreCases (clauses_trees cs)) d (tokens_from false (body_pieces cs) ++ rest) rest (expect Marks.left_brace >>= λ _. again ([], false)) give
+  body_lead [] w d rest nz few ready =
+      exactly (let b = shape (form_of (codes "{")) false in
       expected {c = d} {s = b} Marks.left_brace tt _ left_brace_is
       (from {d = after d b} (repeated.cases ([], false) (rest_of w (after d b) (shape (form_of (codes "}")) false ∷ rest)))
-      (take {c = after d b} {s = shape (form_of (codes "}")) false} Marks.right_brace tt _ _ right_brace_is (stays [] give (record { same = refl }) ready)))
-  body_lead (c ∷ cs) w d rest nz few room ready =
-      let b = shape (form_of (codes "{")) false in
+      (take {c = after d b} {s = shape (form_of (codes "}")) false} Marks.right_brace tt _ _ right_brace_is (stays [] give (record { same = refl }) ready)))) (omega arith)
+  body_lead (c ∷ cs) w d rest nz few ready =
+      exactly (let b = shape (form_of (codes "{")) false in
       on (ap (λ ps. tokens_from false ps ++ rest) (body_is c cs))
-      (expected {c = d} {s = b} Marks.left_brace tt _ left_brace_is (clauses_lead (c ∷ cs) rest nz [] [] false w (after d b) (record { same = refl }) (omega (arith, few)) room ready))
+      (expected {c = d} {s = b} Marks.left_brace tt _ left_brace_is (clauses_lead (c ∷ cs) rest nz [] [] false w (after d b) (record { same = refl }) (omega (arith, few)) ready))) (omega arith)
 
-module _ {all : World} {se : Bool} {pe : List Piece} {ne : Numbers} {e : Expr} (at : Place) (form : StmtForm) (cs : List (Clause all)) where
-  switch_reads : out-StmtForm form ≡ StmtForm-F.Switch e (clauses_trees cs) → defaults cs ≤ 1 → (f : Fit all 1 se true pe ne e)
-      → Read all (f.part.bound + clauses_bound cs + 1) (head_pieces (codes "switch") pe ++ body_pieces cs) (ne ++ clauses_numbers cs) (IsStmt (record { at = at; form = form })) (NoElse false) (S.statement grammar) give
+module _ {all : World} {be : ℕ} {se : Bool} {pe : List Piece} {ne : Numbers} {e : Expr} (at : Place) (form : StmtForm) (low : LowStmt all (record { at = at; form = form })) (cs : List (Clause all)) where
+  switch_reads : out-StmtForm form ≡ StmtForm-F.Switch e (clauses_trees cs) → defaults cs ≤ 1 → (f : Fit all be 1 se true pe ne e)
+      → Read all (max (suc be) (clauses_bound cs)) (head_pieces (codes "switch") pe ++ body_pieces cs) (ne ++ clauses_numbers cs) (IsStmt (record { at = at; form = form })) (NoElse false) (S.statement grammar) give
   unfolding S.switch_behind
   switch_reads is few f = record {
-    at = λ w c line rest nz room ready fits.
-        let p = (c.supply 0).0 in
+    at = λ w c line rest nz ready fits.
+        exactly (let p = (c.supply 0).0 in
         let o = after c (shape (form_of (codes "switch")) line) in
         on (split_head (codes "switch") pe (body_pieces cs) f.part.flows line rest)
         (begins_with {c = c} (codes "switch") S.Switch switch_begins
-        (bind (head_reads f w o (tokens_from false (body_pieces cs) ++ rest) (clauses_numbers cs ++ nz) (omega (arith, room)) (ready_behind c.functions ne (clauses_numbers cs) nz ready)) (λ x d isx readyx.
+        (bind (head_reads f w o (tokens_from false (body_pieces cs) ++ rest) (clauses_numbers cs ++ nz) (ready_behind c.functions ne (clauses_numbers cs) nz ready)) (λ x d isx readyx.
         from {d = d} {n = (expect Marks.left_brace >>= λ _. again ([], false)) >>= λ ys. finish_stmt p (s.Switch x ys)} (regrouped p x (rest_of w d (tokens_from false (body_pieces cs) ++ rest)))
-        (bind (body_lead cs w d rest nz few (omega (arith, room)) readyx) (λ ys g are done.
-        finishes_stmt p (s.Switch x ys) (same_stmts p at (s.Switch x ys) form _ _ (s.outs-Switch x ys) is
-        (ap (λ v. StmtForm-F.Switch v (map unplaced_case ys)) isx.same ∙ ap (λ v. StmtForm-F.Switch (unplaced.expr e) v) are.same)) done)))));
+        (bind (body_lead cs w d rest nz few readyx) (λ ys g are done.
+        finishes_stmt p (s.Switch x ys) low (same_stmts p at (s.Switch x ys) form _ _ (s.outs-Switch x ys) is
+        (ap (λ v. StmtForm-F.Switch v (map unplaced_case ys)) isx.same ∙ ap (λ v. StmtForm-F.Switch (unplaced.expr e) v) are.same)) done)))))) (omega arith);
   }
     where
       regrouped : (p : Place) (x : Expr) (r : Rest) → (expect Marks.left_brace >>= λ _. again ([], false) >>= λ ys. finish_stmt p (s.Switch x ys)) r ≡ ((expect Marks.left_brace >>= λ _. again ([], false)) >>= λ ys. finish_stmt p (s.Switch x ys)) r
@@ -341,11 +341,10 @@ module _ {all : World} {se : Bool} {pe : List Piece} {ne : Numbers} {e : Expr} (
           by (Ok y) = refl
           by (Err f) = refl
 
-  pub switch_part : out-StmtForm form ≡ StmtForm-F.Switch e (clauses_trees cs) → defaults cs ≤ 1 → Fit all 1 se true pe ne e
-      → StmtPart all false (head_pieces (codes "switch") pe ++ body_pieces cs) (ne ++ clauses_numbers cs) (record { at = at; form = form })
+  pub switch_part : out-StmtForm form ≡ StmtForm-F.Switch e (clauses_trees cs) → defaults cs ≤ 1 → Fit all be 1 se true pe ne e
+      → StmtPart all (max (suc be) (clauses_bound cs)) false (head_pieces (codes "switch") pe ++ body_pieces cs) (ne ++ clauses_numbers cs) (record { at = at; form = form })
   switch_part is few f = record {
     flows = flows_last (head_pieces (codes "switch") pe) (body_pieces cs) (body_flows cs);
     first = token_first (codes "switch") false _ _ switch_first;
-    bound = f.part.bound + clauses_bound cs + 1;
     reads = switch_reads is few f;
   }

@@ -1,5 +1,5 @@
 -- `try` with its handler and its last part (12.14).
-use Rattle.std.proofs.Common.{◌≡◌, ◌≤◌, ℕ, ◌+◌, Bool, true, false, cond, List, [], ◌∷◌, ◌++◌, map, refl, ap, sym, ◌∙◌, subst, arith, append_assoc, append-nil}
+use Rattle.std.proofs.Common.{◌≡◌, ℕ, ◌+◌, Bool, true, false, cond, List, [], ◌∷◌, ◌++◌, map, refl, ap, sym, ◌∙◌, subst, arith, append_assoc, append-nil, max}
 use Rattle.std.specs.Prelude.{◌||◌, codes, Option, Some, None, is_some}
 use Rattle.std.specs.Option.{option_map}
 use Rattle.js_value.specs.declared.place.Place.{Place}
@@ -28,7 +28,7 @@ use Rattle.script_text.specs.Pieces.{Piece, Bind, Release, word}
 use Rattle.script_text.specs.Statements.{block, catch_head, binding}
 use Rattle.script_text.specs.Tokens.{Shape, shape, form_of, name_form, tokens_from}
 use Rattle.reading_back.proofs.Claims.{World, Frame, Spot, rest_of, deeper, Leads, Ready, Read, Flows}
-use Rattle.reading_back.proofs.StatementClaims.{IsStmt, ends_list, is_finally, NoElse, StmtPart}
+use Rattle.reading_back.proofs.StatementClaims.{LowStmt, IsStmt, ends_list, is_finally, NoElse, StmtPart}
 use Rattle.reading_back.specs.Unplaced as unplaced
 use Rattle.reading_back.proofs.Flowing.{flows_last, spread}
 use Rattle.reading_back.proofs.FunctionBodies.{flows_release}
@@ -37,7 +37,7 @@ use Rattle.reading_back.proofs.Groups.{right_parenthesis_is}
 use Rattle.reading_back.proofs.Members.{parenthesis_mark}
 use Rattle.reading_back.proofs.StatementLists.{AreStmts, Line, bound_lines, shown_lines, numbers_lines, tree_lines, block_reads, block_flows}
 use Rattle.reading_back.proofs.StatementSteps.{of_case, of_finally, StmtLayer, unplaced_catch, unplaced_finally, unplaced_parts, same_stmts, begins_with, finishes_stmt, right_parenthesis, left_parenthesis}
-use Rattle.reading_back.proofs.Steps.{after, first_of_shapes, from, on, stays, bind, take, miss, expected, parted, opens}
+use Rattle.reading_back.proofs.Steps.{exactly, after, first_of_shapes, from, on, stays, bind, take, miss, expected, parted, opens}
 use Rattle.reading_back.proofs.TwoOperands.{ready_behind}
 
 -- ---- last parts
@@ -63,11 +63,10 @@ unfolding form_of reserved_word
 try_first = refl
 
 -- a handler or a last part, as it is printed, or none; where there is none, such a word doesn't stand behind
-pub record MaybePart (all : World) {A : Type 0} (pieces : List Piece) (numbers : Numbers) (o : Option A) (unplace : A → A) (want : TokenForm → Option (Unit {0})) (read : Reading (Option A)) : Type 0 where
+pub record MaybePart (all : World) (bound : ℕ) {A : Type 0} (pieces : List Piece) (numbers : Numbers) (o : Option A) (unplace : A → A) (want : TokenForm → Option (Unit {0})) (read : Reading (Option A)) : Type 0 where
   pub ends : (before : List Piece) → Flows before → Flows (before ++ pieces)
-  pub bound : ℕ
-  pub reads : (w : Frame all) (c : Spot) (rest : List Shape) (nz : Numbers) → w.opened + bound ≤ w.limit → Ready w c.functions (numbers ++ nz) → (o ≡ None → first_of_shapes want rest ≡ None)
-      → Leads w nz (λ (p : Option A). option_map unplace p ≡ option_map unplace o) c (tokens_from false pieces ++ rest) rest read give
+  pub reads : (w : Frame all) (c : Spot) (rest : List Shape) (nz : Numbers) → Ready w c.functions (numbers ++ nz) → (o ≡ None → first_of_shapes want rest ≡ None)
+      → Leads (w.opened + bound) w nz (λ (p : Option A). option_map unplace p ≡ option_map unplace o) c (tokens_from false pieces ++ rest) rest read give
 
 abbrev pub finally_pieces : List Piece → List Piece
 finally_pieces body = word (codes "finally") ++ body
@@ -83,33 +82,30 @@ catch_layer c at text body e =
     ∙ ap (λ (l : Catch-F StmtForm Case Catch Finally Stmt). roll-Catch (record { at = place 0; name = l.name; body = map unplaced.stmt l.body })) e
 
 module _ {all : World} where
-  pub no_handler : MaybePart all [] [] None unplaced_catch Marks.catch_word (S.catch_part grammar)
+  pub no_handler : MaybePart all 0 [] [] None unplaced_catch Marks.catch_word (S.catch_part grammar)
   no_handler = record {
     ends = λ before h. subst Flows (sym (append-nil before)) h;
-    bound = 0;
-    reads = λ w c rest nz room ready none. miss Marks.catch_word _ _ (none refl) (stays None give refl ready);
+    reads = λ w c rest nz ready none. exactly (miss Marks.catch_word _ _ (none refl) (stays None give refl ready)) (omega arith);
   }
 
-  pub no_last : MaybePart all [] [] None unplaced_finally Marks.finally_word (S.finally_part grammar)
+  pub no_last : MaybePart all 0 [] [] None unplaced_finally Marks.finally_word (S.finally_part grammar)
   no_last = record {
     ends = λ before h. subst Flows (sym (append-nil before)) h;
-    bound = 0;
-    reads = λ w c rest nz room ready none. miss Marks.finally_word _ _ (none refl) (stays None give refl ready);
+    reads = λ w c rest nz ready none. exactly (miss Marks.finally_word _ _ (none refl) (stays None give refl ready)) (omega arith);
   }
 
   module _ (xs : List (Line all)) where
     abbrev inside : List Piece
     inside = block (λ s. s) (shown_lines xs)
 
-    pub last_part : (f : Finally) → out-Finally f ≡ record { body = tree_lines xs } → MaybePart all (finally_pieces inside) (numbers_lines xs) (Some f) unplaced_finally Marks.finally_word (S.finally_part grammar)
+    pub last_part : (f : Finally) → out-Finally f ≡ record { body = tree_lines xs } → MaybePart all (bound_lines xs) (finally_pieces inside) (numbers_lines xs) (Some f) unplaced_finally Marks.finally_word (S.finally_part grammar)
     last_part f is = record {
       ends = λ before h. flows_last before (finally_pieces inside) (flows_last (word (codes "finally")) inside (block_flows xs));
-      bound = bound_lines xs;
-      reads = λ w c rest nz room ready none.
-          take {c = c} {s = shape (form_of (codes "finally")) false} Marks.finally_word tt _ _ finally_is
-          (bind (block_reads xs false w (after c (shape (form_of (codes "finally")) false)) rest nz room ready) (λ ts d are done.
+      reads = λ w c rest nz ready none.
+          exactly (take {c = c} {s = shape (form_of (codes "finally")) false} Marks.finally_word tt _ _ finally_is
+          (bind (block_reads xs false w (after c (shape (form_of (codes "finally")) false)) rest nz ready) (λ ts d are done.
           stays {c = d} (Some (roll-Finally (record { body = ts }))) give
-          (ap Some (finally_layer (roll-Finally (record { body = ts })) ts (out-roll-Finally (record { body = ts })) ∙ ap (λ us. roll-Finally (record { body = us })) are.same ∙ sym (finally_layer f (tree_lines xs) is))) done));
+          (ap Some (finally_layer (roll-Finally (record { body = ts })) ts (out-roll-Finally (record { body = ts })) ∙ ap (λ us. roll-Finally (record { body = us })) are.same ∙ sym (finally_layer f (tree_lines xs) is))) done))) (omega arith);
     }
 
     -- ---- handlers
@@ -135,29 +131,28 @@ module _ {all : World} where
     flows_handler text = flows_last (catch_head text) (binding (text ∷ []) inside) (flows_last (Bind (text ∷ []) ∷ []) (inside ++ Release ∷ []) (flows_release inside (block_flows xs)))
 
     pub handler_part : (h : Catch) (at : Place) (text : List ℕ) → out-Catch h ≡ record { at = at; name = text; body = tree_lines xs } → is_identifier text ≡ true
-        → MaybePart all (handler_pieces text) (numbers_lines xs) (Some h) unplaced_catch Marks.catch_word (S.catch_part grammar)
+        → MaybePart all (max 1 (bound_lines xs)) (handler_pieces text) (numbers_lines xs) (Some h) unplaced_catch Marks.catch_word (S.catch_part grammar)
     handler_part h at text is identifier = record {
       ends = λ before f. flows_last before (handler_pieces text) (flows_handler text);
-      bound = bound_lines xs + 1;
-      reads = λ w c rest nz room ready none.
+      reads = λ w c rest nz ready none.
           let k : Shape = shape (form_of (codes "catch")) false in
           let n : Shape = shape (name_form text) false in
           let d = after c k in
           let l = after d left_parenthesis in
           let behind = tokens_from false inside ++ rest in
           let the_name : Name = record { at = at; text = text } in
-          on (split_handler text rest)
+          exactly (on (split_handler text rest)
           (take {c = c} {s = k} Marks.catch_word tt (λ _. expect Marks.left_parenthesis >> (named >>= λ name. caught name)) (give None) catch_is
           (expected {c = d} {s = left_parenthesis} Marks.left_parenthesis tt (λ _. named >>= λ name. caught name) parenthesis_mark.parenthesis_is
-          (bind {Is = λ (m : Name). m.text ≡ text} (parted (omega (arith, room)) refl
+          (bind {Is = λ (m : Name). m.text ≡ text} (parted refl
           (bind (name_lead the_name (is_declared text identifier) (deeper w) l false (right_parenthesis ∷ behind) (numbers_lines xs ++ nz) (opens l.functions (numbers_lines xs ++ nz) ready)) (λ m f same done.
           expected {c = f} {s = right_parenthesis} Marks.right_parenthesis tt (λ _. give m) right_parenthesis_is (stays m give (ap (λ (x : Name). x.text) same.same) done))))
           (λ m f same done.
-          bind (block_reads xs false w f rest nz (omega (arith, room)) done) (λ ts g are finished.
+          bind (block_reads xs false w f rest nz done) (λ ts g are finished.
           let x : Catch = roll-Catch (record { at = m.at; name = m.text; body = ts }) in
           stays {c = g} (Some x) give
           (ap Some (catch_layer x m.at m.text ts (out-roll-Catch (record { at = m.at; name = m.text; body = ts })) ∙ ap (λ (q : List ℕ). roll-Catch (record { at = place 0; name = q; body = map unplaced.stmt ts })) same
-          ∙ ap (λ us. roll-Catch (record { at = place 0; name = text; body = us })) are.same ∙ sym (catch_layer h at text (tree_lines xs) is))) finished)))));
+          ∙ ap (λ us. roll-Catch (record { at = place 0; name = text; body = us })) are.same ∙ sym (catch_layer h at text (tree_lines xs) is))) finished)))))) (omega arith);
     }
 
 -- ---- the statement
@@ -200,8 +195,8 @@ try_same ts us (Some a) None y f are sameh samef = absurd (cc)
 try_same ts us x h None (Some d) are sameh samef = absurd (cc)
 try_same ts us x h (Some c) None are sameh samef = absurd (cc)
 
-module _ {all : World} (at : Place) (form : StmtForm) (xs : List (Line all)) (h : Option Catch) (f : Option Finally) {hp fp : List Piece} {nh nf : Numbers}
-    (ph : MaybePart all hp nh h unplaced_catch Marks.catch_word (S.catch_part grammar)) (pf : MaybePart all fp nf f unplaced_finally Marks.finally_word (S.finally_part grammar)) where
+module _ {all : World} (at : Place) (form : StmtForm) (low : LowStmt all (record { at = at; form = form })) (xs : List (Line all)) (h : Option Catch) (f : Option Finally) {bh bf : ℕ} {hp fp : List Piece} {nh nf : Numbers}
+    (ph : MaybePart all bh hp nh h unplaced_catch Marks.catch_word (S.catch_part grammar)) (pf : MaybePart all bf fp nf f unplaced_finally Marks.finally_word (S.finally_part grammar)) where
   abbrev body_pieces : List Piece
   body_pieces = block (λ s. s) (shown_lines xs)
 
@@ -216,26 +211,26 @@ module _ {all : World} (at : Place) (form : StmtForm) (xs : List (Line all)) (h 
       ∙ append_assoc (tokens_from line (word (codes "try") ++ body_pieces)) (tokens_from false hp) (tokens_from false fp ++ rest)
 
   try_reads : out-StmtForm form ≡ StmtForm-F.Try (tree_lines xs) h f → (is_some h || is_some f) ≡ true → ((rest : List Shape) → h ≡ None → first_of_shapes Marks.catch_word (tokens_from false fp ++ rest) ≡ None)
-      → Read all (bound_lines xs + ph.bound + pf.bound) (try_pieces body_pieces hp fp) ((numbers_lines xs ++ nh) ++ nf) (IsStmt (record { at = at; form = form })) (NoElse false) (S.statement grammar) give
+      → Read all (max (max (bound_lines xs) bh) bf) (try_pieces body_pieces hp fp) ((numbers_lines xs ++ nh) ++ nf) (IsStmt (record { at = at; form = form })) (NoElse false) (S.statement grammar) give
   unfolding S.try_behind
   try_reads is some no_catch = record {
-    at = λ w c line rest nz room ready fits.
-        let p = (c.supply 0).0 in
+    at = λ w c line rest nz ready fits.
+        exactly (let p = (c.supply 0).0 in
         let d = after c (shape (form_of (codes "try")) line) in
         let last = tokens_from false fp ++ rest in
         let middle = tokens_from false hp ++ last in
         on (split_try line rest)
         (begins_with {c = c} (codes "try") S.Try try_begins
-        (bind (block_reads xs false w d middle (nh ++ (nf ++ nz)) (omega (arith, room)) (ready_behind c.functions (numbers_lines xs) nh (nf ++ nz) (ready_behind c.functions (numbers_lines xs ++ nh) nf nz ready))) (λ ts g are readyg.
-        bind (ph.reads w g last (nf ++ nz) (omega (arith, room)) readyg (no_catch rest)) (λ x k sameh readyk.
-        bind (pf.reads w k rest nz (omega (arith, room)) readyk (λ e. no_last_word rest fits.no_finally)) (λ y l samef readyl.
+        (bind (block_reads xs false w d middle (nh ++ (nf ++ nz)) (ready_behind c.functions (numbers_lines xs) nh (nf ++ nz) (ready_behind c.functions (numbers_lines xs ++ nh) nf nz ready))) (λ ts g are readyg.
+        bind (ph.reads w g last (nf ++ nz) readyg (no_catch rest)) (λ x k sameh readyk.
+        bind (pf.reads w k rest nz readyk (λ e. no_last_word rest fits.no_finally)) (λ y l samef readyl.
         from (if_true (is_some x || is_some y) (finish_stmt p (s.Try ts x y)) unexpected (rest_of w l rest)
         (ap (λ b. b || is_some y) (same_some unplaced_catch x h sameh) ∙ ap (λ b. is_some h || b) (same_some unplaced_finally y f samef) ∙ some))
-        (finishes_stmt {c = l} p (s.Try ts x y) (same_stmts p at (s.Try ts x y) form _ _ (s.outs-Try ts x y) is (try_same ts (tree_lines xs) x h y f are sameh samef)) readyl))))));
+        (finishes_stmt {c = l} p (s.Try ts x y) low (same_stmts p at (s.Try ts x y) form _ _ (s.outs-Try ts x y) is (try_same ts (tree_lines xs) x h y f are sameh samef)) readyl))))))) (omega arith);
   }
 
   pub try_part : out-StmtForm form ≡ StmtForm-F.Try (tree_lines xs) h f → (is_some h || is_some f) ≡ true → ((rest : List Shape) → h ≡ None → first_of_shapes Marks.catch_word (tokens_from false fp ++ rest) ≡ None)
-      → StmtPart all false (try_pieces body_pieces hp fp) ((numbers_lines xs ++ nh) ++ nf) (record { at = at; form = form })
+      → StmtPart all (max (max (bound_lines xs) bh) bf) false (try_pieces body_pieces hp fp) ((numbers_lines xs ++ nh) ++ nf) (record { at = at; form = form })
   try_part is some no_catch = record {
     flows = pf.ends ((word (codes "try") ++ body_pieces) ++ hp) (ph.ends (word (codes "try") ++ body_pieces) flows_body);
     first = record {
@@ -244,6 +239,5 @@ module _ {all : World} (at : Place) (form : StmtForm) (xs : List (Line all)) (h 
       is = λ line. sym (append-nil (tokens_from line (try_pieces body_pieces hp fp))) ∙ split_try line [];
       begins = try_first;
     };
-    bound = bound_lines xs + ph.bound + pf.bound;
     reads = try_reads is some no_catch;
   }

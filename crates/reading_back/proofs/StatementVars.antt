@@ -1,5 +1,5 @@
 -- Declarators and `var` (12.2).
-use Rattle.std.proofs.Common.{◌≡◌, ◌≤◌, ℕ, ◌+◌, Bool, true, false, List, [], ◌∷◌, ◌++◌, map, refl, ap, sym, ◌∙◌, subst, arith, append_assoc, append-nil}
+use Rattle.std.proofs.Common.{◌≡◌, ℕ, ◌+◌, Bool, true, false, List, [], ◌∷◌, ◌++◌, map, refl, ap, sym, ◌∙◌, subst, arith, append_assoc, append-nil}
 use Rattle.std.specs.Prelude.{codes, Option, Some, None}
 use Rattle.std.specs.Option.{option_map}
 use Rattle.std.proofs.lemmas.List.{map-append}
@@ -23,14 +23,15 @@ use Rattle.script_text.specs.Expressions.{name}
 use Rattle.script_text.specs.Pieces.{Piece, word, closing, separated, behind_commas}
 use Rattle.script_text.specs.Tokens.{Shape, shape, form_of, name_form, tokens_from}
 use Rattle.reading_back.proofs.Claims.{World, Frame, Spot, rest_of, Leads, Ready, below, Fit}
-use Rattle.reading_back.proofs.StatementClaims.{ends_list, StmtPart}
+use Rattle.reading_back.proofs.StatementClaims.{LowStmt, ends_list, StmtPart}
 use Rattle.reading_back.specs.Unplaced as unplaced
 use Rattle.reading_back.proofs.Flowing.{flows_last, flows_token, spread}
 use Rattle.reading_back.proofs.FunctionNames.{IsName, IsDeclared, name_lead}
 use Rattle.reading_back.proofs.LooseOperators.{assignment_reads, comma_is, comma_joins}
 use Rattle.reading_back.proofs.StatementHeads.{semicolon_joins}
 use Rattle.reading_back.proofs.StatementSteps.{same_stmts, semicolon, begins_with, token_first, finishes_stmt, ended}
-use Rattle.reading_back.proofs.Steps.{after, first_of_shapes, from, on, become, stays, bind, take, miss}
+use Rattle.script_nesting.specs.Highest.{highest}
+use Rattle.reading_back.proofs.Steps.{exactly, after, first_of_shapes, from, on, become, stays, bind, take, miss}
 use Rattle.reading_back.proofs.TwoOperands.{ready_behind}
 
 -- ---- declarators as they are printed
@@ -41,7 +42,8 @@ pub record Init (all : World) (allows_in : Bool) : Type 0 where
   pub pieces : List Piece
   pub numbers : Numbers
   pub tree : Expr
-  pub fit : Fit all 2 starts allows_in pieces numbers tree
+  pub bound : ℕ
+  pub fit : Fit all bound 2 starts allows_in pieces numbers tree
 
 pub record Decl (all : World) (allows_in : Bool) : Type 0 where
   pub tree : Declarator
@@ -65,7 +67,7 @@ one_more model so_far d x h is = record {
 module _ {all : World} {allows_in : Bool} where
   abbrev pub init_bound : Option (Init all allows_in) → ℕ
   init_bound None = 0
-  init_bound (Some i) = i.fit.part.bound
+  init_bound (Some i) = i.bound
 
   abbrev pub init_pieces : Option (Init all allows_in) → List Piece
   init_pieces None = []
@@ -79,8 +81,7 @@ module _ {all : World} {allows_in : Bool} where
   decl_pieces d = name d.tree.name ++ init_pieces d.init
 
   abbrev pub decls_bound : List (Decl all allows_in) → ℕ
-  decls_bound [] = 0
-  decls_bound (d ∷ ds) = init_bound d.init + decls_bound ds
+  decls_bound ds = highest (map (λ (d : Decl all allows_in). init_bound d.init) ds)
 
   abbrev pub decls_numbers : List (Decl all allows_in) → Numbers
   decls_numbers [] = []
@@ -139,19 +140,19 @@ module _ {all : World} {allows_in : Bool} where
     pub name_is : v.0.name ≡ n.text
     pub init_is : option_map unplaced.expr v.0.init ≡ option_map unplaced.expr (option_map (λ (i : Init all allows_in). i.tree) o)
 
-  pub init_lead : (n : Name) (o : Option (Init all allows_in)) (w : Frame all) (c : Spot) (rest : List Shape) (nz : Numbers) → w.opened + init_bound o ≤ w.limit → Ready w c.functions (init_numbers o ++ nz) → Stops allows_in rest
-      → Leads w nz (IsInit n o) c (tokens_from false (init_pieces o) ++ rest) rest (D.initialiser grammar allows_in n) give
-  init_lead n None w c rest nz room ready stops =
-      miss Marks.equals _ _ stops.no_equals (stays {c = c} (record { at = n.at; name = n.text; init = None }, n.at) give (record { name_is = refl; init_is = refl }) ready)
-  init_lead n (Some i) w c rest nz room ready stops =
-      let e : Shape = shape (form_of (codes "=")) false in
+  pub init_lead : (n : Name) (o : Option (Init all allows_in)) (w : Frame all) (c : Spot) (rest : List Shape) (nz : Numbers) → Ready w c.functions (init_numbers o ++ nz) → Stops allows_in rest
+      → Leads (w.opened + init_bound o) w nz (IsInit n o) c (tokens_from false (init_pieces o) ++ rest) rest (D.initialiser grammar allows_in n) give
+  init_lead n None w c rest nz ready stops =
+      exactly (miss Marks.equals _ _ stops.no_equals (stays {c = c} (record { at = n.at; name = n.text; init = None }, n.at) give (record { name_is = refl; init_is = refl }) ready)) (omega arith)
+  init_lead n (Some i) w c rest nz ready stops =
+      exactly (let e : Shape = shape (form_of (codes "=")) false in
       let at = (c.supply 1).0 in
       let opened = ap (λ zs. zs ++ rest) (i.fit.part.first.is false) in
       take {c = c} {s = e} Marks.equals tt _ _ equals_is
       (from {d = after c e} {other = tokens_from false i.pieces ++ rest} {n = behind_equals n at}
       (ap (λ zs. behind_place n (rest_of w (after c e) zs)) opened ∙ ap (λ zs. behind_equals n at (rest_of w (after c e) zs)) (sym opened))
-      (bind ((assignment_reads i.fit).at w (after c e) false rest nz room ready stops.loose) (λ x d is done.
-      stays {c = d} (record { at = n.at; name = n.text; init = Some x }, at) give (record { name_is = refl; init_is = ap Some is.same }) done)))
+      (bind ((assignment_reads i.fit).at w (after c e) false rest nz ready stops.loose) (λ x d is done.
+      stays {c = d} (record { at = n.at; name = n.text; init = Some x }, at) give (record { name_is = refl; init_is = ap Some is.same }) done)))) (omega arith)
     where
       behind_equals : Name → Place → Reading (Declarator × Place)
       behind_equals n at = grammar.assignment allows_in >>= λ x. give (record { at = n.at; name = n.text; init = Some x }, at)
@@ -196,28 +197,28 @@ module _ {all : World} {allows_in : Bool} where
       ∙ spread_init d.init (behind_commas decl_pieces ds ++ (closing (codes ";") ++ more)) rest
       ∙ ap (λ zs. tokens_from false (init_pieces d.init) ++ zs) (spread_behind ds (closing (codes ";") ++ more) rest))
 
-  pub more_lead : (ds : List (Decl all allows_in)) (model so_far : List Declarator) (w : Frame all) (c : Spot) (rest : List Shape) (nz : Numbers) → AreDeclarators model so_far → w.opened + decls_bound ds ≤ w.limit
+  pub more_lead : (ds : List (Decl all allows_in)) (model so_far : List Declarator) (w : Frame all) (c : Spot) (rest : List Shape) (nz : Numbers) → AreDeclarators model so_far
       → Ready w c.functions (decls_numbers ds ++ nz)
-      → Leads w nz (AreDeclarators (model ++ decls_trees ds)) c (behind_decl ds rest) (semicolon ∷ rest) (repeat (D.more_declarators grammar allows_in) so_far) give
-  more_lead [] model so_far w c rest nz same room ready =
-      from {d = c} (repeated.declarators allows_in so_far (rest_of w c (semicolon ∷ rest)))
-      (miss Marks.comma _ _ semicolon_no_comma (stays {c = c} so_far give (record { same = same.same ∙ ap (map unplaced.declarator) (sym (append-nil model)) }) ready))
-  more_lead (d ∷ ds) model so_far w c rest nz same room ready =
-      let m : Shape = shape (form_of (codes ",")) false in
+      → Leads (w.opened + decls_bound ds) w nz (AreDeclarators (model ++ decls_trees ds)) c (behind_decl ds rest) (semicolon ∷ rest) (repeat (D.more_declarators grammar allows_in) so_far) give
+  more_lead [] model so_far w c rest nz same ready =
+      exactly (from {d = c} (repeated.declarators allows_in so_far (rest_of w c (semicolon ∷ rest)))
+      (miss Marks.comma _ _ semicolon_no_comma (stays {c = c} so_far give (record { same = same.same ∙ ap (map unplaced.declarator) (sym (append-nil model)) }) ready))) (omega arith)
+  more_lead (d ∷ ds) model so_far w c rest nz same ready =
+      exactly (let m : Shape = shape (form_of (codes ",")) false in
       let n : Name = record { at = place 0; text = d.tree.name } in
       on (spread_more d ds rest)
       (from {d = c} (repeated.declarators allows_in so_far (rest_of w c (m ∷ (shape (name_form d.tree.name) false ∷ (tokens_from false (init_pieces d.init) ++ behind_decl ds rest)))))
       (take {c = c} {s = m} Marks.comma tt _ _ comma_is
       (bind (name_lead n d.declared w (after c m) false (tokens_from false (init_pieces d.init) ++ behind_decl ds rest) (init_numbers d.init ++ (decls_numbers ds ++ nz)) (ready_behind c.functions (init_numbers d.init) (decls_numbers ds) nz ready)) (λ x f isn readyn.
-      bind (init_lead x d.init w f (behind_decl ds rest) (decls_numbers ds ++ nz) (omega (arith, room)) readyn (stops ds rest)) (λ v g isv readyv.
+      bind (init_lead x d.init w f (behind_decl ds rest) (decls_numbers ds ++ nz) readyn (stops ds rest)) (λ v g isv readyv.
       become (λ b h. subst (λ es. AreDeclarators es b) (append_assoc model (d.tree ∷ []) (decls_trees ds)) h)
-      (more_lead ds (model ++ (d.tree ∷ [])) (so_far ++ (v.0 ∷ [])) w g rest nz (one_more model so_far d.tree v.0 same (is_declarator d x v isn isv)) (omega (arith, room)) readyv))))))
+      (more_lead ds (model ++ (d.tree ∷ [])) (so_far ++ (v.0 ∷ [])) w g rest nz (one_more model so_far d.tree v.0 same (is_declarator d x v isn isv)) readyv))))))) (omega arith)
 
-  pub declarators_lead : (d : Decl all allows_in) (ds : List (Decl all allows_in)) (first : Declarator) → IsDeclarator d.tree first → (w : Frame all) (c : Spot) (rest : List Shape) (nz : Numbers) → w.opened + decls_bound ds ≤ w.limit
+  pub declarators_lead : (d : Decl all allows_in) (ds : List (Decl all allows_in)) (first : Declarator) → IsDeclarator d.tree first → (w : Frame all) (c : Spot) (rest : List Shape) (nz : Numbers)
       → Ready w c.functions (decls_numbers ds ++ nz)
-      → Leads w nz (AreDeclarators (decls_trees (d ∷ ds))) c (behind_decl ds rest) (semicolon ∷ rest) (D.declarators_behind grammar allows_in first) give
+      → Leads (w.opened + decls_bound ds) w nz (AreDeclarators (decls_trees (d ∷ ds))) c (behind_decl ds rest) (semicolon ∷ rest) (D.declarators_behind grammar allows_in first) give
   unfolding D.declarators_behind
-  declarators_lead d ds first is w c rest nz room ready = more_lead ds (d.tree ∷ []) (first ∷ []) w c rest nz (one_more [] [] d.tree first (record { same = refl }) is) room ready
+  declarators_lead d ds first is w c rest nz ready = exactly (more_lead ds (d.tree ∷ []) (first ∷ []) w c rest nz (one_more [] [] d.tree first (record { same = refl }) is) ready) (omega arith)
 
 -- ---- 12.2
 
@@ -229,28 +230,27 @@ var_first : ends_list (form_of (codes "var")) ≡ false
 unfolding form_of reserved_word
 var_first = refl
 
-module _ {all : World} (at : Place) (form : StmtForm) (d : Decl all true) (ds : List (Decl all true)) where
+module _ {all : World} (at : Place) (form : StmtForm) (low : LowStmt all (record { at = at; form = form })) (d : Decl all true) (ds : List (Decl all true)) where
   -- the declarators with their word
   abbrev pub var_pieces : List Piece
   var_pieces = word (codes "var") ++ separated decl_pieces (d ∷ ds)
 
-  pub var_part : out-StmtForm form ≡ StmtForm-F.Var (decls_trees (d ∷ ds)) → StmtPart all false (var_pieces ++ closing (codes ";")) (decls_numbers (d ∷ ds)) (record { at = at; form = form })
+  pub var_part : out-StmtForm form ≡ StmtForm-F.Var (decls_trees (d ∷ ds)) → StmtPart all (decls_bound (d ∷ ds)) false (var_pieces ++ closing (codes ";")) (decls_numbers (d ∷ ds)) (record { at = at; form = form })
   unfolding S.var_behind
   var_part is = record {
     flows = flows_last var_pieces (closing (codes ";")) (flows_token (codes ";") true _);
     first = token_first (codes "var") false _ _ var_first;
-    bound = decls_bound (d ∷ ds);
     reads = record {
-      at = λ w c line rest nz room ready fits.
-          let p = (c.supply 0).0 in
+      at = λ w c line rest nz ready fits.
+          exactly (let p = (c.supply 0).0 in
           let o = after c (shape (form_of (codes "var")) line) in
           let n : Name = record { at = place 0; text = d.tree.name } in
           on (spread_var d ds [] line rest)
           (begins_with {c = c} (codes "var") S.Var var_begins
           (bind (name_lead n d.declared w o false (tokens_from false (init_pieces d.init) ++ behind_decl ds rest) (init_numbers d.init ++ (decls_numbers ds ++ nz)) (ready_behind c.functions (init_numbers d.init) (decls_numbers ds) nz ready)) (λ x f isn readyn.
-          bind (init_lead x d.init w f (behind_decl ds rest) (decls_numbers ds ++ nz) (omega (arith, room)) readyn (stops ds rest)) (λ v g isv readyv.
-          bind (declarators_lead d ds v.0 (is_declarator d x v isn isv) w g rest nz (omega (arith, room)) readyv) (λ us h are done.
+          bind (init_lead x d.init w f (behind_decl ds rest) (decls_numbers ds ++ nz) readyn (stops ds rest)) (λ v g isv readyv.
+          bind (declarators_lead d ds v.0 (is_declarator d x v isn isv) w g rest nz readyv) (λ us h are done.
           ended {c = h} (S.continues_var grammar us) (λ _. finish_stmt p (s.Var us))
-          (finishes_stmt p (s.Var us) (same_stmts p at (s.Var us) form _ _ (s.outs-Var us) is (ap (λ v. StmtForm-F.Var v) are.same)) done))))));
+          (finishes_stmt p (s.Var us) low (same_stmts p at (s.Var us) form _ _ (s.outs-Var us) is (ap (λ v. StmtForm-F.Var v) are.same)) done))))))) (omega arith);
     };
   }

@@ -10,3 +10,4 @@ pub mod FormCases
 pub mod WholeCases
 pub mod Small
 pub mod SmallForm
+pub mod Snapshot

@@ -40,6 +40,6 @@ is_residual_body [] = true
 is_residual_body (s ∷ []) = is_variables (out-StmtForm s.form)
 is_residual_body (s ∷ t ∷ more) = false
 
--- Nothing, or one `var` statement of constants. A residual that rebuilds objects has more, which isn't made yet.
-unfoldable pub is_residual : Script → Bool
-is_residual s = not s.directive && not (has_functions s.funcs) && is_residual_body s.body
+-- Nothing, or one `var` statement of constants. A residual that rebuilds objects has a wrapper.
+unfoldable pub is_without_wrapper : Script → Bool
+is_without_wrapper s = not s.directive && not (has_functions s.funcs) && is_residual_body s.body

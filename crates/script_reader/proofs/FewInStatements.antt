@@ -30,7 +30,7 @@ use Rattle.js_tree.specs.declared.token.TokenForm.TheVariants as form
 use Rattle.js_tree.specs.declared.token.Token.{Token}
 use Rattle.js_tree.specs.Count.{in_expr, in_maybe, in_declarators, in_stmt}
 use Rattle.simple_scripts.specs.SimpleScripts.{is_simple_init, is_simple_declarator, is_simple_form, is_simple_statement, is_short, sum_in}
-use Rattle.simple_runs.proofs.Forms.{in_stmt-var}
+use Rattle.simple_scripts.proofs.Folds.{in_stmt-var}
 use Rattle.js_grammar.specs.Rest.{Reading, ◌>>=◌, ◌>>◌, give, sees_second, part, finish_stmt, expect, repeat, place_of}
 use Rattle.js_grammar.specs.Rest as R
 use Rattle.js_grammar.specs.Marks

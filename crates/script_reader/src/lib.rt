@@ -4,25 +4,15 @@
 mod script;
 
 ghost use Rattle.std.specs.Prelude.{◌≡◌, ◌*◌, ◌≤◌, ℕ, List, Ok, IsTrue, length};
-ghost use Rattle.js_value.specs.declared.primitive.Primitive.{Primitive};
 ghost use Rattle.js_tree.specs.declared.statement.Script.{Script};
 ghost use Rattle.js_tree.specs.Count.{nodes};
-ghost use Rattle.simple_scripts.specs.Snapshot.{snapshot};
-ghost use Rattle.simple_scripts.specs.SimpleScripts as simple;
-ghost use Rattle.simple_scripts.specs.Text.{script_text};
-ghost use Rattle.simple_runs.specs.Readable.{is_readable, placed};
+ghost use Rattle.simple_scripts.specs.SimpleScripts.{is_simple};
 ghost use Rattle.script_reader.specs.Reads.{reads};
 
 pub use script::read;
 
-/// The residual of readable variables reads back: a law, with nothing to run.
-pub fn residual_law()
-    ensures reads_back { (vs : List (List ℕ × Primitive)) → IsTrue (is_readable vs) →
-        reads (script_text (snapshot vs)) 1024 ≡ Ok (placed vs) }
-{}
-
 /// The script of a text has few nodes where it is simple: at most 20 for 21 bytes. A law, with nothing to run.
 pub fn few_nodes_law()
-    ensures { (text : List ℕ) (limit : ℕ) (s : Script) → reads text limit ≡ Ok s → IsTrue (simple.is_simple s) →
+    ensures { (text : List ℕ) (limit : ℕ) (s : Script) → reads text limit ≡ Ok s → IsTrue (is_simple s) →
         21 * nodes s ≤ 20 * length text }
 {}

@@ -1,9 +1,6 @@
 pub mod Forms
-pub mod Texts
-pub mod Literals
 pub mod Reading
 pub mod Running
-pub mod Spelled
 pub mod Variables
 pub mod GlobalVariables
 pub mod GlobalNames
@@ -13,6 +10,4 @@ pub mod SimpleStatements
 pub mod NoInputs
 pub mod SimpleScripts
 pub mod VariableListings
-pub mod Placed
-pub mod SameExpressions
-pub mod SameTexts
+pub mod Rebuilding

@@ -18,7 +18,6 @@ use Rattle.simple_scripts.specs.Simple.{reads_declared}
 use Rattle.simple_scripts.specs.SimpleScripts.{Sum, sum_form, sum_in, is_simple, is_simple_declarator, is_simple_form, is_simple_init, is_simple_statement}
 use Rattle.js_tree.specs.Parts.{has_functions}
 use Rattle.js_tree.specs.Weighed as forms
-use Rattle.js_tree.specs.declared.weights.Weights.{Weights}
 use Rattle.simple_scripts.specs.SimpleNames.{is_simple_name}
 use Rattle.js_tree.specs.declared.expression.Expr.{Expr}
 use Rattle.js_tree.specs.declared.expression.ExprForm.{out-ExprForm}
@@ -52,18 +51,14 @@ binary_parts op a b is = cc
 -- ---- inputs and host calls
 
 module _ (input host_call : ℕ) where
-  -- inputs and host calls alone
-  abbrev weights : Weights
-  weights = record { node = 0; input = input; host_call = host_call }
-
   abbrev forms_at : Layer → ℕ
-  forms_at = at_layer ℕ ℕ ℕ (forms.of_form weights) (forms.of_field weights) (forms.of_expr weights)
+  forms_at = at_layer ℕ ℕ ℕ (forms.of_form (record { node = 0; input = input; host_call = host_call })) (forms.of_field (record { node = 0; input = input; host_call = host_call })) (forms.of_expr (record { node = 0; input = input; host_call = host_call }))
 
-  forms_are : (e : Expr) (l : Layer) → out-ExprForm e.form ≡ l → forms.in_expr weights e ≡ forms_at l + 0
-  forms_are = by_layer ℕ ℕ ℕ (forms.of_form weights) (forms.of_field weights) (forms.of_expr weights)
+  forms_are : (e : Expr) (l : Layer) → out-ExprForm e.form ≡ l → forms.in_expr (record { node = 0; input = input; host_call = host_call }) e ≡ forms_at l + 0
+  forms_are = by_layer ℕ ℕ ℕ (forms.of_form (record { node = 0; input = input; host_call = host_call })) (forms.of_field (record { node = 0; input = input; host_call = host_call })) (forms.of_expr (record { node = 0; input = input; host_call = host_call }))
 
   abbrev NoneBelow : ℕ → Type 0
-  NoneBelow d = (e : Expr) → in_expr e ≤ d → is_sum (sum_in e) ≡ true → forms.in_expr weights e ≡ 0
+  NoneBelow d = (e : Expr) → in_expr e ≤ d → is_sum (sum_in e) ≡ true → forms.in_expr (record { node = 0; input = input; host_call = host_call }) e ≡ 0
 
   none_layer : (d : ℕ) → NoneBelow d → (l : Layer) → nodes_at l ≤ d → is_sum (sum_at l) ≡ true → forms_at l ≡ 0
   none_layer d below (ExprForm-F.Literal value) few is = refl
@@ -83,11 +78,11 @@ module _ (input host_call : ℕ) where
       let none = none_layer d (none_in_expr d) (out-ExprForm e.form) (omega (arith, nodes, few)) (ap is_sum (sym (sum_is e (out-ExprForm e.form) refl)) ∙ is) in
       omega (arith, forms_are e (out-ExprForm e.form) refl, none)
 
-  none_in_maybe : (init : Option Expr) → is_simple_init init ≡ true → forms.in_maybe weights init ≡ 0
+  none_in_maybe : (init : Option Expr) → is_simple_init init ≡ true → forms.in_maybe (record { node = 0; input = input; host_call = host_call }) init ≡ 0
   none_in_maybe None short = refl
   none_in_maybe (Some e) short = none_in_expr (in_expr e) e (omega arith) (short_sum (sum_in e) short)
 
-  none_in_declarators : (ds : List Declarator) → list_all is_simple_declarator ds ≡ true → forms.in_declarators weights ds ≡ 0
+  none_in_declarators : (ds : List Declarator) → list_all is_simple_declarator ds ≡ true → forms.in_declarators (record { node = 0; input = input; host_call = host_call }) ds ≡ 0
   none_in_declarators [] all = refl
   none_in_declarators (d ∷ ds) all =
       let parts = and_parts (is_simple_declarator d) (list_all is_simple_declarator ds) all in
@@ -95,14 +90,14 @@ module _ (input host_call : ℕ) where
       let others = none_in_declarators ds parts.1 in
       rw first others
 
-  none_by_form : (s : Stmt) (l : StmtForm-F StmtForm Case Catch Finally Stmt) → out-StmtForm s.form ≡ l → is_simple_form l ≡ true → forms.in_stmt weights s ≡ 0
+  none_by_form : (s : Stmt) (l : StmtForm-F StmtForm Case Catch Finally Stmt) → out-StmtForm s.form ≡ l → is_simple_form l ≡ true → forms.in_stmt (record { node = 0; input = input; host_call = host_call }) s ≡ 0
   none_by_form s (StmtForm-F.Var ds) is form =
-      let by_form = fold_out-StmtForm ℕ ℕ ℕ ℕ ℕ (forms.of_stmt_form weights) (forms.of_case weights) (forms.of_catch weights) (forms.of_finally weights) (forms.of_stmt weights) s.form in
-      let whole = fold_out-Stmt ℕ ℕ ℕ ℕ ℕ (forms.of_stmt_form weights) (forms.of_case weights) (forms.of_catch weights) (forms.of_finally weights) (forms.of_stmt weights) s in
+      let by_form = fold_out-StmtForm ℕ ℕ ℕ ℕ ℕ (forms.of_stmt_form (record { node = 0; input = input; host_call = host_call })) (forms.of_case (record { node = 0; input = input; host_call = host_call })) (forms.of_catch (record { node = 0; input = input; host_call = host_call })) (forms.of_finally (record { node = 0; input = input; host_call = host_call })) (forms.of_stmt (record { node = 0; input = input; host_call = host_call })) s.form in
+      let whole = fold_out-Stmt ℕ ℕ ℕ ℕ ℕ (forms.of_stmt_form (record { node = 0; input = input; host_call = host_call })) (forms.of_case (record { node = 0; input = input; host_call = host_call })) (forms.of_catch (record { node = 0; input = input; host_call = host_call })) (forms.of_finally (record { node = 0; input = input; host_call = host_call })) (forms.of_stmt (record { node = 0; input = input; host_call = host_call })) s in
       whole ∙ ap (λ n. n + 0) ((rw is at by_form) ∙ none_in_declarators ds form)
   none_by_form s _ is form = cc
 
-  none_in_body : (ss : List Stmt) → list_all is_simple_statement ss ≡ true → forms.in_stmts weights ss ≡ 0
+  none_in_body : (ss : List Stmt) → list_all is_simple_statement ss ≡ true → forms.in_stmts (record { node = 0; input = input; host_call = host_call }) ss ≡ 0
   none_in_body [] all = refl
   none_in_body (s ∷ ss) all =
       let parts = and_parts (is_simple_statement s) (list_all is_simple_statement ss) all in

@@ -19,15 +19,18 @@ use Rattle.js_tree.specs.declared.expression.Expr.{Expr}
 use Rattle.js_tree.specs.declared.statement.Declarator.{Declarator}
 use Rattle.js_tree.specs.declared.statement.StmtForm.TheVariants.{outs-Var}
 use Rattle.js_tree.specs.Refusals.{place}
-use Rattle.simple_scripts.specs.Simple.{literal, minus, var_at, script_of, declared_names}
+use Rattle.js_tree.specs.Trees.{script, one}
+use Rattle.simple_scripts.specs.Simple.{declared_names}
+use Rattle.simple_scripts.proofs.Folds.{in_stmt-var}
 use Rattle.js_tree.specs.Count.{of_form, of_field, of_expr, in_expr, in_maybe, in_declarators, nodes}
 use Rattle.simple_runs.specs.Events.{Heap, Tree, Step, End, Run, give, step, lookup, put, put_unless, declare, or_leave}
 use Rattle.simple_runs.specs.Simple.{minus_rule, form_rule, expr_rule, evaluation, declarator_rule, in_turn, declarators_rule, statement_rule, statement, declared, script_tree}
 use Rattle.simple_runs.specs.Runs.{Ended, walk, plain}
-use Rattle.simple_runs.proofs.Forms.{fold-literal, fold-minus, in_stmt-var}
+use Rattle.simple_runs.proofs.Forms.{fold-literal, fold-minus}
 use Rattle.simple_runs.proofs.Reading.{declarators_of-var}
 use Rattle.simple_runs.proofs.Variables.{declare_all}
-use Rattle.simple_runs.specs.Readable.{is_plain_value, is_readable_variable, is_readable, constant_at, variables_at, place_behind, placed}
+use Rattle.simple_runs.specs.Placed.{Places, literal, minus, constant_at, behind, variables_at, var_at, placed}
+use Rattle.simple_runs.specs.PlainVariables.{is_plain_value, is_plain_variable, are_plain_variables}
 
 -- ---- heaps
 
@@ -75,18 +78,18 @@ declared-distinct (v ∷ vs) distinct =
     ∙ ap (λ heap. undefined_of v ∷ heap) (declared-distinct vs (IsDistinct-tail bytes_eq v.0 (keys_of vs) distinct))
 
 -- the declarators of variables have their names
-names-variables : (vs : List (List ℕ × Primitive)) (from : ℕ) → flat_map (λ (d : Declarator). d.name ∷ []) (variables_at from vs) ≡ keys_of vs
-names-variables [] from = refl
-names-variables (v ∷ vs) from = ap (λ names. v.0 ∷ names) (names-variables vs (place_behind from v))
+names-variables : (vs : List (List ℕ × Primitive)) (at : ℕ → Places) → flat_map (λ (d : Declarator). d.name ∷ []) (variables_at at vs) ≡ keys_of vs
+names-variables [] at = refl
+names-variables (v ∷ vs) at = ap (λ names. v.0 ∷ names) (names-variables vs (behind at))
 
 -- ---- declarators
 
 -- the evaluation of a literal
-evaluation-literal : (at : Place) (n : ℤ) → evaluation (literal at n) ≡ step at (give (primitive.Number n))
-evaluation-literal at n = fold-literal (Place → Run Primitive) (Unit {0}) (Run Primitive) form_rule (λ f. tt) expr_rule at n
+evaluation-literal : (at : ℕ) (n : ℤ) → evaluation (literal at n) ≡ step (place at) (give (primitive.Number n))
+evaluation-literal at n = fold-literal (Place → Run Primitive) (Unit {0}) (Run Primitive) form_rule (λ f. tt) expr_rule at (primitive.Number n)
 
 -- the evaluation of a negation
-evaluation-minus : (at : Place) (e : Expr) → evaluation (minus at e) ≡ step at (minus_rule at (evaluation e))
+evaluation-minus : (at : ℕ) (e : Expr) → evaluation (minus at e) ≡ step (place at) (minus_rule (place at) (evaluation e))
 evaluation-minus at e = fold-minus (Place → Run Primitive) (Unit {0}) (Run Primitive) form_rule (λ f. tt) expr_rule at e
 
 -- a successor is not 0
@@ -99,48 +102,47 @@ negated-suc n safe =
     cond-false (int_eq (pos (suc n)) (pos 0)) (Err MinusZero) (within (negsuc n)) (not_zero n) ∙ cond-true (is_safe (negsuc n)) (Ok (negsuc n)) (Err Unsafe) safe
 
 -- a declarator with a literal takes a step and puts its value
-declarator-literal : (name : List ℕ) (at : Place) (n : ℤ) (heap : Heap) (k : Unit {0} → Heap → Tree) → declarator_rule name (Some (literal at n)) heap k ≡ Step at (k tt (put name (primitive.Number n) heap))
+declarator-literal : (name : List ℕ) (at : ℕ) (n : ℤ) (heap : Heap) (k : Unit {0} → Heap → Tree) → declarator_rule name (Some (literal at n)) heap k ≡ Step (place at) (k tt (put name (primitive.Number n) heap))
 unfolding declarator_rule
 declarator-literal name at n heap k = ap (λ (m : Run Primitive). m heap (λ value h. k tt (put name value h))) (evaluation-literal at n)
 
 -- a declarator with a negated literal takes two steps and puts its value
-declarator-minus : (name : List ℕ) (at next : Place) (n : ℕ) (heap : Heap) (k : Unit {0} → Heap → Tree) → is_safe (negsuc n) ≡ true
-    → declarator_rule name (Some (minus at (literal next (pos (suc n))))) heap k ≡ Step at (Step next (k tt (put name (primitive.Number (negsuc n)) heap)))
+declarator-minus : (name : List ℕ) (at next : ℕ) (n : ℕ) (heap : Heap) (k : Unit {0} → Heap → Tree) → is_safe (negsuc n) ≡ true
+    → declarator_rule name (Some (minus at (literal next (pos (suc n))))) heap k ≡ Step (place at) (Step (place next) (k tt (put name (primitive.Number (negsuc n)) heap)))
 unfolding declarator_rule minus_rule
 declarator-minus name at next n heap k safe =
     let then : Primitive → Heap → Tree = λ value h. k tt (put name value h) in
     ap (λ (m : Run Primitive). m heap then) (evaluation-minus at (literal next (pos (suc n))))
-    ∙ ap (λ (m : Run Primitive). Step at (minus_rule at m heap then)) (evaluation-literal next (pos (suc n)))
-    ∙ ap (λ r. Step at (Step next (or_leave at r heap then))) (negated-suc n safe)
+    ∙ ap (λ (m : Run Primitive). Step (place at) (minus_rule (place at) m heap then)) (evaluation-literal next (pos (suc n)))
+    ∙ ap (λ r. Step (place at) (Step (place next) (or_leave (place at) r heap then))) (negated-suc n safe)
 
 -- a declarator goes past a property of another name
-declarator-past : (name : List ℕ) (from : ℕ) (value : Primitive) (e : List ℕ × Primitive) (heap : Heap) (k : Unit {0} → Heap → Tree) → is_plain_value value ≡ true → bytes_eq name e.0 ≡ false
-    → declarator_rule name (constant_at from value) (e ∷ heap) k ≡ declarator_rule name (constant_at from value) heap (λ u h. k u (e ∷ h))
+declarator-past : (name : List ℕ) (at : Places) (value : Primitive) (e : List ℕ × Primitive) (heap : Heap) (k : Unit {0} → Heap → Tree) → is_plain_value value ≡ true → bytes_eq name e.0 ≡ false
+    → declarator_rule name (constant_at at value) (e ∷ heap) k ≡ declarator_rule name (constant_at at value) heap (λ u h. k u (e ∷ h))
 unfolding declarator_rule
-declarator-past name from primitive.Undefined e heap k plain other = refl
-declarator-past name from (primitive.Number (pos n)) e heap k plain other =
-    declarator-literal name (place from) (pos n) (e ∷ heap) k
-    ∙ ap (λ h. Step (place from) (k tt h)) (put-past name (primitive.Number (pos n)) e heap other)
-    ∙ sym (declarator-literal name (place from) (pos n) heap (λ u h. k u (e ∷ h)))
-declarator-past name from (primitive.Number (negsuc n)) e heap k plain other =
-    declarator-minus name (place from) (place (from + 1)) n (e ∷ heap) k plain
-    ∙ ap (λ h. Step (place from) (Step (place (from + 1)) (k tt h))) (put-past name (primitive.Number (negsuc n)) e heap other)
-    ∙ sym (declarator-minus name (place from) (place (from + 1)) n heap (λ u h. k u (e ∷ h)) plain)
-declarator-past name from primitive.Null e heap k plain other = absurd (both_ways false refl plain)
-declarator-past name from (primitive.Boolean b) e heap k plain other = absurd (both_ways false refl plain)
-declarator-past name from (primitive.Text units) e heap k plain other = absurd (both_ways false refl plain)
+declarator-past name at primitive.Undefined e heap k plain other = refl
+declarator-past name at (primitive.Number (pos n)) e heap k plain other =
+    declarator-literal name at.value (pos n) (e ∷ heap) k
+    ∙ ap (λ h. Step (place at.value) (k tt h)) (put-past name (primitive.Number (pos n)) e heap other)
+    ∙ sym (declarator-literal name at.value (pos n) heap (λ u h. k u (e ∷ h)))
+declarator-past name at (primitive.Number (negsuc n)) e heap k plain other =
+    declarator-minus name at.value at.operand n (e ∷ heap) k plain
+    ∙ ap (λ h. Step (place at.value) (Step (place at.operand) (k tt h))) (put-past name (primitive.Number (negsuc n)) e heap other)
+    ∙ sym (declarator-minus name at.value at.operand n heap (λ u h. k u (e ∷ h)) plain)
+declarator-past name at primitive.Null e heap k plain other = absurd (both_ways false refl plain)
+declarator-past name at (primitive.Boolean b) e heap k plain other = absurd (both_ways false refl plain)
+declarator-past name at (primitive.Text units) e heap k plain other = absurd (both_ways false refl plain)
 
 -- declarators go past a property of another name
-declarators-past : (vs : List (List ℕ × Primitive)) (from : ℕ) (e : List ℕ × Primitive) (heap : Heap) (k : Unit {0} → Heap → Tree) → is_readable vs ≡ true → DiffersFromAll e.0 (keys_of vs)
-    → declarators_rule (variables_at from vs) (e ∷ heap) k ≡ declarators_rule (variables_at from vs) heap (λ u h. k u (e ∷ h))
-declarators-past [] from e heap k readable others = refl
-declarators-past (v ∷ vs) from e heap k readable others =
-    let parts = and_parts (is_readable_variable v) (is_readable vs) readable in
+declarators-past : (vs : List (List ℕ × Primitive)) (at : ℕ → Places) (e : List ℕ × Primitive) (heap : Heap) (k : Unit {0} → Heap → Tree) → are_plain_variables vs ≡ true → DiffersFromAll e.0 (keys_of vs)
+    → declarators_rule (variables_at at vs) (e ∷ heap) k ≡ declarators_rule (variables_at at vs) heap (λ u h. k u (e ∷ h))
+declarators-past [] at e heap k readable others = refl
+declarators-past (v ∷ vs) at e heap k readable others =
+    let parts = and_parts (is_plain_variable v) (are_plain_variables vs) readable in
     let plain = (and_parts _ (is_plain_value v.1) parts.0).1 in
-    let at = from + length v.0 + 3 in
-    let more = variables_at (place_behind from v) vs in
-    declarator-past v.0 at v.1 e heap (λ _ h. declarators_rule more h k) plain (other_name e.0 v.0 others.0)
-    ∙ ap (declarator_rule v.0 (constant_at at v.1) heap) (λ i u h. declarators-past vs (place_behind from v) e h k parts.1 others.1 i)
+    let more = variables_at (behind at) vs in
+    declarator-past v.0 (at 0) v.1 e heap (λ _ h. declarators_rule more h k) plain (other_name e.0 v.0 others.0)
+    ∙ ap (declarator_rule v.0 (constant_at (at 0) v.1) heap) (λ i u h. declarators-past vs (behind at) e h k parts.1 others.1 i)
 
 -- ---- steps
 
@@ -149,75 +151,74 @@ walk-step : (n m : ℕ) (at : Place) (t : Tree) → n ≡ suc m → walk n (Step
 walk-step n m at t e = ap (λ k. walk k (Step at t)) e
 
 -- a literal is one expression
-in_expr-literal : (at : Place) (n : ℤ) → in_expr (literal at n) ≡ 1
-in_expr-literal at n = fold-literal ℕ ℕ ℕ of_form of_field of_expr at n
+in_expr-literal : (at : ℕ) (n : ℤ) → in_expr (literal at n) ≡ 1
+in_expr-literal at n = fold-literal ℕ ℕ ℕ of_form of_field of_expr at (primitive.Number n)
 
 -- a negated literal is two expressions
-in_expr-minus : (at next : Place) (n : ℤ) → in_expr (minus at (literal next n)) ≡ 2
+in_expr-minus : (at next : ℕ) (n : ℤ) → in_expr (minus at (literal next n)) ≡ 2
 in_expr-minus at next n = fold-minus ℕ ℕ ℕ of_form of_field of_expr at (literal next n) ∙ ap (λ m. m + 1) (in_expr-literal next n)
 
 -- A declarator takes a step for each of its expressions, and its property, which comes first, gets the value.
-walk-declarator : (name : List ℕ) (from : ℕ) (value : Primitive) (heap : Heap) (n : ℕ) (k : Unit {0} → Heap → Tree) → is_plain_value value ≡ true
-    → walk (in_maybe (constant_at from value) + n) (declarator_rule name (constant_at from value) ((name, primitive.Undefined) ∷ heap) k) ≡ walk n (k tt ((name, value) ∷ heap))
+walk-declarator : (name : List ℕ) (at : Places) (value : Primitive) (heap : Heap) (n : ℕ) (k : Unit {0} → Heap → Tree) → is_plain_value value ≡ true
+    → walk (in_maybe (constant_at at value) + n) (declarator_rule name (constant_at at value) ((name, primitive.Undefined) ∷ heap) k) ≡ walk n (k tt ((name, value) ∷ heap))
 unfolding declarator_rule
-walk-declarator name from primitive.Undefined heap n k plain = ap (λ m. walk m (k tt ((name, primitive.Undefined) ∷ heap))) (zero-add n)
-walk-declarator name from (primitive.Number (pos m)) heap n k plain =
-    let count : in_expr (literal (place from) (pos m)) + n ≡ suc n = omega (arith, in_expr-literal (place from) (pos m)) in
-    ap (walk (in_expr (literal (place from) (pos m)) + n)) (declarator-literal name (place from) (pos m) ((name, primitive.Undefined) ∷ heap) k)
-    ∙ walk-step _ n (place from) (k tt (put name (primitive.Number (pos m)) ((name, primitive.Undefined) ∷ heap))) count
+walk-declarator name at primitive.Undefined heap n k plain = ap (λ m. walk m (k tt ((name, primitive.Undefined) ∷ heap))) (zero-add n)
+walk-declarator name at (primitive.Number (pos m)) heap n k plain =
+    let count : in_expr (literal at.value (pos m)) + n ≡ suc n = omega (arith, in_expr-literal at.value (pos m)) in
+    ap (walk (in_expr (literal at.value (pos m)) + n)) (declarator-literal name at.value (pos m) ((name, primitive.Undefined) ∷ heap) k)
+    ∙ walk-step _ n (place at.value) (k tt (put name (primitive.Number (pos m)) ((name, primitive.Undefined) ∷ heap))) count
     ∙ ap (λ h. walk n (k tt h)) (put-first name primitive.Undefined (primitive.Number (pos m)) heap)
-walk-declarator name from (primitive.Number (negsuc m)) heap n k plain =
-    let at = place from in
-    let next = place (from + 1) in
-    let count : in_expr (minus at (literal next (pos (suc m)))) + n ≡ suc (suc n) = omega (arith, in_expr-minus at next (pos (suc m))) in
+walk-declarator name at (primitive.Number (negsuc m)) heap n k plain =
+    let count : in_expr (minus at.value (literal at.operand (pos (suc m)))) + n ≡ suc (suc n) = omega (arith, in_expr-minus at.value at.operand (pos (suc m))) in
     let end = k tt (put name (primitive.Number (negsuc m)) ((name, primitive.Undefined) ∷ heap)) in
-    ap (walk (in_expr (minus at (literal next (pos (suc m)))) + n)) (declarator-minus name at next m ((name, primitive.Undefined) ∷ heap) k plain)
-    ∙ walk-step _ (suc n) at (Step next end) count
+    ap (walk (in_expr (minus at.value (literal at.operand (pos (suc m)))) + n)) (declarator-minus name at.value at.operand m ((name, primitive.Undefined) ∷ heap) k plain)
+    ∙ walk-step _ (suc n) (place at.value) (Step (place at.operand) end) count
     ∙ ap (λ h. walk n (k tt h)) (put-first name primitive.Undefined (primitive.Number (negsuc m)) heap)
-walk-declarator name from primitive.Null heap n k plain = absurd (both_ways false refl plain)
-walk-declarator name from (primitive.Boolean b) heap n k plain = absurd (both_ways false refl plain)
-walk-declarator name from (primitive.Text units) heap n k plain = absurd (both_ways false refl plain)
+walk-declarator name at primitive.Null heap n k plain = absurd (both_ways false refl plain)
+walk-declarator name at (primitive.Boolean b) heap n k plain = absurd (both_ways false refl plain)
+walk-declarator name at (primitive.Text units) heap n k plain = absurd (both_ways false refl plain)
 
 -- Declarators take a step for each of their expressions, and leave the variables.
-pub walk-declarators : (vs : List (List ℕ × Primitive)) (from n : ℕ) (k : Unit {0} → Heap → Tree) → is_readable vs ≡ true → IsDistinct bytes_eq (keys_of vs)
-    → walk (in_declarators (variables_at from vs) + n) (declarators_rule (variables_at from vs) (map undefined_of vs) k) ≡ walk n (k tt vs)
-walk-declarators [] from n k readable distinct = ap (λ m. walk m (k tt [])) (zero-add n)
-walk-declarators (v ∷ vs) from n k readable distinct =
-    let parts = and_parts (is_readable_variable v) (is_readable vs) readable in
+pub walk-declarators : (vs : List (List ℕ × Primitive)) (at : ℕ → Places) (n : ℕ) (k : Unit {0} → Heap → Tree) → are_plain_variables vs ≡ true → IsDistinct bytes_eq (keys_of vs)
+    → walk (in_declarators (variables_at at vs) + n) (declarators_rule (variables_at at vs) (map undefined_of vs) k) ≡ walk n (k tt vs)
+walk-declarators [] at n k readable distinct = ap (λ m. walk m (k tt [])) (zero-add n)
+walk-declarators (v ∷ vs) at n k readable distinct =
+    let parts = and_parts (is_plain_variable v) (are_plain_variables vs) readable in
     let plain = (and_parts _ (is_plain_value v.1) parts.0).1 in
-    let at = from + length v.0 + 3 in
-    let more = variables_at (place_behind from v) vs in
-    let first = in_maybe (constant_at at v.1) in
-    let both : in_declarators (variables_at from (v ∷ vs)) ≡ first + in_declarators more = sum_by-cons (λ x. x) first (map (λ (d : Declarator). in_maybe d.init) more) in
-    let count : in_declarators (variables_at from (v ∷ vs)) + n ≡ first + (in_declarators more + n) = omega arith in
-    ap (λ m. walk m (declarators_rule (variables_at from (v ∷ vs)) (map undefined_of (v ∷ vs)) k)) count
-    ∙ walk-declarator v.0 at v.1 (map undefined_of vs) (in_declarators more + n) (λ _ h. declarators_rule more h k) plain
-    ∙ ap (walk (in_declarators more + n)) (declarators-past vs (place_behind from v) v (map undefined_of vs) k parts.1 (IsDistinct-head bytes_eq v.0 (keys_of vs) distinct))
-    ∙ walk-declarators vs (place_behind from v) n (λ u h. k u (v ∷ h)) parts.1 (IsDistinct-tail bytes_eq v.0 (keys_of vs) distinct)
+    let more = variables_at (behind at) vs in
+    let first = in_maybe (constant_at (at 0) v.1) in
+    let both : in_declarators (variables_at at (v ∷ vs)) ≡ first + in_declarators more = sum_by-cons (λ x. x) first (map (λ (d : Declarator). in_maybe d.init) more) in
+    let count : in_declarators (variables_at at (v ∷ vs)) + n ≡ first + (in_declarators more + n) = omega arith in
+    ap (λ m. walk m (declarators_rule (variables_at at (v ∷ vs)) (map undefined_of (v ∷ vs)) k)) count
+    ∙ walk-declarator v.0 (at 0) v.1 (map undefined_of vs) (in_declarators more + n) (λ _ h. declarators_rule more h k) plain
+    ∙ ap (walk (in_declarators more + n)) (declarators-past vs (behind at) v (map undefined_of vs) k parts.1 (IsDistinct-head bytes_eq v.0 (keys_of vs) distinct))
+    ∙ walk-declarators vs (behind at) n (λ u h. k u (v ∷ h)) parts.1 (IsDistinct-tail bytes_eq v.0 (keys_of vs) distinct)
 
 -- ---- the script
 
 -- the run of a script of one `var` statement, from the heap with its names
-script_tree-var : (at : Place) (ds : List Declarator) (heap : Heap) → declared (declared_names (var_at at ds ∷ [])) ≡ heap
-    → script_tree (script_of (var_at at ds ∷ [])) ≡ Step at (declarators_rule ds heap (λ _ h. End h))
+script_tree-var : (at : ℕ) (ds : List Declarator) (heap : Heap) → declared (declared_names (var_at at ds ∷ [])) ≡ heap
+    → script_tree (one (var_at at ds)) ≡ Step (place at) (declarators_rule ds heap (λ _ h. End h))
 unfolding script_tree
 script_tree-var at ds heap e =
-    ap (λ h. in_turn statement (var_at at ds ∷ []) h (λ _ h. End h)) e ∙ ap (λ l. Step at (statement_rule l heap (λ _ h. End h))) (outs-Var ds)
+    ap (λ h. in_turn statement (var_at at ds ∷ []) h (λ _ h. End h)) e ∙ ap (λ l. Step (place at) (statement_rule l heap (λ _ h. End h))) (outs-Var ds)
 
 -- the empty script ends at once
-walk-nothing : walk 0 (script_tree (script_of [])) ≡ Ended []
+walk-nothing : walk 0 (script_tree (script [] [])) ≡ Ended []
 unfolding script_tree
 walk-nothing = refl
 
--- the residual of variables with distinct names rebuilds them
-pub plain-placed : (vs : List (List ℕ × Primitive)) → is_readable vs ≡ true → IsDistinct bytes_eq (keys_of vs) → plain (placed vs) (nodes (placed vs)) ≡ Ended vs
+-- the residual of variables with distinct names rebuilds them, wherever its parts lie
+pub plain-placed : (vs : List (List ℕ × Primitive)) (at : ℕ) (places : ℕ → Places) → are_plain_variables vs ≡ true → IsDistinct bytes_eq (keys_of vs)
+    → plain (placed at places vs) (nodes (placed at places vs)) ≡ Ended vs
 unfolding plain placed
-plain-placed [] readable distinct = walk-nothing
-plain-placed (v ∷ vs) readable distinct =
-    let ds = variables_at 4 (v ∷ vs) in
-    let heap : declared (declared_names (var_at (place 0) ds ∷ [])) ≡ map undefined_of (v ∷ vs) =
-    ap (λ all. declared (flat_map (λ (d : Declarator). d.name ∷ []) all)) (declarators_of-var (place 0) ds) ∙ ap declared (names-variables (v ∷ vs) 4) ∙ declared-distinct (v ∷ vs) distinct in
-    let count : nodes (placed (v ∷ vs)) ≡ suc (in_declarators ds + 0) = omega (arith, in_stmt-var (place 0) ds) in
-    ap (walk (nodes (placed (v ∷ vs)))) (script_tree-var (place 0) ds (map undefined_of (v ∷ vs)) heap)
-    ∙ walk-step (nodes (placed (v ∷ vs))) (in_declarators ds + 0) (place 0) (declarators_rule ds (map undefined_of (v ∷ vs)) (λ _ h. End h)) count
-    ∙ walk-declarators (v ∷ vs) 4 0 (λ _ h. End h) readable distinct
+plain-placed [] at places readable distinct = walk-nothing
+plain-placed (v ∷ vs) at places readable distinct =
+    let ds = variables_at places (v ∷ vs) in
+    let s = placed at places (v ∷ vs) in
+    let heap : declared (declared_names (var_at at ds ∷ [])) ≡ map undefined_of (v ∷ vs) =
+    ap (λ all. declared (flat_map (λ (d : Declarator). d.name ∷ []) all)) (declarators_of-var at ds) ∙ ap declared (names-variables (v ∷ vs) places) ∙ declared-distinct (v ∷ vs) distinct in
+    let count : nodes s ≡ suc (in_declarators ds + 0) = omega (arith, in_stmt-var (place at) ds) in
+    ap (walk (nodes s)) (script_tree-var at ds (map undefined_of (v ∷ vs)) heap)
+    ∙ walk-step (nodes s) (in_declarators ds + 0) (place at) (declarators_rule ds (map undefined_of (v ∷ vs)) (λ _ h. End h)) count
+    ∙ walk-declarators (v ∷ vs) places 0 (λ _ h. End h) readable distinct

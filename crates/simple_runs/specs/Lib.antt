@@ -2,7 +2,7 @@ pub mod Events
 pub mod Simple
 pub mod Runs
 pub mod Listing
-pub mod Readable
+pub mod PlainVariables
+pub mod Placed
 pub mod SimpleRuns
 pub mod SimpleListings
-pub mod SimpleTexts

@@ -7,27 +7,22 @@ ghost use Rattle.std.specs.Map.{keys_of};
 ghost use Rattle.std.specs.Str.{bytes_eq};
 ghost use Rattle.js_value.specs.declared.primitive.Primitive.{Primitive};
 ghost use Rattle.js_tree.specs.Count.{nodes};
-ghost use Rattle.residual_form.specs.Small.{is_residual};
-ghost use Rattle.simple_scripts.specs.Snapshot.{snapshot};
-ghost use Rattle.simple_scripts.specs.Text.{script_text};
+ghost use Rattle.residual_form.specs.Small.{is_without_wrapper};
 ghost use Rattle.js_machine.specs.Machine.Walks.{World, Ended, Normally, plain};
 ghost use Rattle.script_text.specs.CodeLine.{code_text};
-ghost use Rattle.simple_runs.specs.Readable.{is_readable, placed, variables_text};
+ghost use Rattle.simple_runs.specs.Placed.{Places, placed};
+ghost use Rattle.simple_runs.specs.PlainVariables.{are_plain_variables};
 ghost use Rattle.simple_runs.specs.SimpleListings.{SimpleListings};
 ghost use Rattle.simple_runs.specs.SimpleRuns.{realm_with, SimpleRuns};
-ghost use Rattle.simple_runs.specs.SimpleTexts.{SimpleTexts};
 
-/// The residual of readable variables is a `var` statement of constants, and rebuilds them by the rules of the whole language: a law, with
-/// nothing to run.
+/// The residual of variables is a `var` statement of constants, and rebuilds them by the rules of the whole language, wherever
+/// its parts lie: a law, with nothing to run.
 pub fn snapshot_law()
-    ensures spelled { (vs : List (List ℕ × Primitive)) → IsTrue (is_readable vs) →
-        script_text (snapshot vs) ≡ variables_text vs }
-    ensures residual { (vs : List (List ℕ × Primitive)) → IsTrue (is_residual (placed vs)) }
-    ensures same_text { (vs : List (List ℕ × Primitive)) → IsTrue (is_readable vs) →
-        script_text (placed vs) ≡ script_text (snapshot vs) }
-    ensures rebuilds { (vs : List (List ℕ × Primitive)) (w : World) → IsTrue (is_readable vs) →
-        IsDistinct bytes_eq (keys_of vs) →
-        plain (placed vs) w (nodes (placed vs)) ≡ Ended [] Normally (realm_with vs) }
+    ensures residual { (vs : List (List ℕ × Primitive)) (at : ℕ) (places : ℕ → Places) →
+        IsTrue (are_plain_variables vs) → IsTrue (is_without_wrapper (placed at places vs)) }
+    ensures rebuilds { (vs : List (List ℕ × Primitive)) (at : ℕ) (places : ℕ → Places) (w : World) →
+        IsTrue (are_plain_variables vs) → IsDistinct bytes_eq (keys_of vs) →
+        plain (placed at places vs) w (nodes (placed at places vs)) ≡ Ended [] Normally (realm_with vs) }
 {}
 
 /// A law of simple scripts: by the rules of the whole language they run as by their own.
@@ -41,10 +36,4 @@ pub fn simple_run_law()
 #[tactic(auto, using(crate::proofs::VariableListings::simple_listings))]
 pub fn simple_listing_law()
     ensures { SimpleListings code_text }
-{}
-
-/// A law of simple scripts: by the definition of the text of all scripts they have the text of simple scripts.
-#[tactic(auto, using(crate::proofs::SameTexts::simple_texts))]
-pub fn simple_text_law()
-    ensures { SimpleTexts }
 {}

@@ -1,38 +1,19 @@
 -- The trees of simple scripts, and the names that they declare and read.
-use Rattle.std.specs.Prelude.{ℕ, Bool, false, List, [], ◌∷◌, ◌++◌, Option, Some, None, ℤ}
+use Rattle.std.specs.Prelude.{ℕ, Bool, List, [], ◌∷◌, ◌++◌, Option, Some, None}
 use Rattle.std.specs.List.{list_all, flat_map}
 use Rattle.js_value.specs.declared.place.Place.{Place}
-use Rattle.js_value.specs.declared.primitive.Primitive.TheVariants as primitive
-use Rattle.js_value.specs.declared.operator.UnaryOp.TheVariants as unary
 use Rattle.js_tree.specs.declared.expression.Expr.{Expr, fold-Expr}
 use Rattle.js_tree.specs.declared.expression.ExprForm.{ExprForm}
-use Rattle.js_tree.specs.declared.expression.ExprForm.TheVariants as form
 use Rattle.js_tree.specs.declared.expression.ExprForm.TheOpen.{ExprForm-F}
 use Rattle.js_tree.specs.declared.statement.Declarator.{Declarator}
 use Rattle.js_tree.specs.declared.statement.Stmt.{Stmt}
 use Rattle.js_tree.specs.declared.statement.StmtForm.{out-StmtForm}
-use Rattle.js_tree.specs.declared.statement.StmtForm.TheVariants as statement
-use Rattle.js_tree.specs.declared.statement.Script.{Script}
 use Rattle.js_tree.specs.Parts.{is_among, declarators_in}
 
 -- ---- expressions
 
 abbrev pub expr : Place → ExprForm → Expr
 expr at form = record { at = at; form = form }
-
-abbrev pub literal : Place → ℤ → Expr
-literal at n = expr at (form.Literal (primitive.Number n))
-
-abbrev pub minus : Place → Expr → Expr
-minus at a = expr at (form.Unary unary.Minus a)
-
--- ---- statements
-
-abbrev pub declarator_of : Place → List ℕ → Option Expr → Declarator
-declarator_of at name init = record { at = at; name = name; init = init }
-
-abbrev pub var_at : Place → List Declarator → Stmt
-var_at at ds = record { at = at; form = statement.Var ds }
 
 -- ---- names
 
@@ -64,8 +45,3 @@ read_names ss = flat_map (λ (d : Declarator). names_in_init d.init) (declarator
 -- each name that is read is declared somewhere
 unfoldable pub reads_declared : List Stmt → Bool
 reads_declared ss = list_all (is_among (declared_names ss)) (read_names ss)
-
--- ---- scripts
-
-abbrev pub script_of : List Stmt → Script
-script_of ss = record { directive = false; body = ss; funcs = [] }

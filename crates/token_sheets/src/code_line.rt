@@ -1,24 +1,23 @@
 //! The code of a function on one line.
 
-ghost use Rattle.std.specs.Prelude.{◌≡◌, ◌++◌, OnOk};
-ghost use Rattle.std.specs.List.{position};
-ghost use Rattle.std.specs.Str.{bytes_eq};
-ghost use Rattle.js_tree.specs.Parts.{is_among};
+ghost use Rattle.std.specs.Prelude.{◌≡◌, ◌++◌, IfOk, OnOk};
 ghost use Rattle.script_text.specs.CodeLine as spec;
 ghost use Rattle.script_text.specs.CodeLine.{add};
 ghost use Rattle.script_text.specs.Pieces.{Reference, Bind, Release, utf8};
 
+use crate::name_places::{BoundNames, NumberedNames};
 use itoa::Buffer;
 use js_value::{Bytes, NoMemory, Seq, Text};
 use std::alloc::Global;
 use std::marker::Model;
+use std::mem::replace;
 
 /// The code of a function on one line, as it grows by tokens.
 #[derive(Drop)]
 pub struct CodeLine {
     bytes: Vec<u8>,
-    names: Seq<Text>,
-    bound: Vec<Seq<Text>>,
+    names: NumberedNames,
+    bound: BoundNames,
 }
 
 impl Model for CodeLine {
@@ -26,28 +25,7 @@ impl Model for CodeLine {
 
     ghost Value = { Written };
 
-    ghost view = { λ c. record { bytes = c.bytes.items; names = c.names; bound = c.bound.items } };
-}
-
-/// Whether a name is one of these.
-fn has(names: &[Text], name: &Text) -> bool
-    ensures { result ≡ is_among names.now name.now }
-{
-    names.iter().any(|other| *name == *other)
-}
-
-/// Whether the code around binds a name.
-fn is_bound(bound: &[Seq<Text>], name: &Text) -> bool
-    ensures { result ≡ spec.is_bound bound.now name.now }
-{
-    bound.iter().any(|names| has(names.as_slice(), name))
-}
-
-/// Where a name stands among these.
-fn position_of(names: &[Text], name: &Text) -> Option<usize>
-    ensures { result ≡ position (bytes_eq name.now) names.now }
-{
-    names.iter().position(|other| *name == *other)
+    ghost view = { λ c. record { bytes = c.bytes.items; names = c.names; bound = c.bound } };
 }
 
 /// Puts a token behind the others, with a space between.
@@ -89,14 +67,14 @@ fn push_name(alloc: Global, bytes: &mut Vec<u8>, name: &Text) -> Result<(), NoMe
 
 impl CodeLine {
     /// A line without tokens, on which these names are replaced.
-    pub fn new(alloc: Global, names: Seq<Text>) -> CodeLine
-        ensures { result ≡ spec.empty_line names }
+    pub fn new(alloc: Global, names: Seq<Text>) -> Result<CodeLine, NoMemory>
+        ensures { IfOk result (λ line. line ≡ spec.empty_line names) }
     {
-        CodeLine {
+        Ok(CodeLine {
             bytes: Vec::new(alloc),
-            names,
-            bound: Vec::new(alloc),
-        }
+            names: NumberedNames::new(alloc, names)?,
+            bound: BoundNames::new(alloc),
+        })
     }
 
     pub fn into_bytes(self) -> Bytes
@@ -117,19 +95,20 @@ impl CodeLine {
     pub fn reference(&mut self, alloc: Global, name: &Text) -> Result<(), NoMemory>
         ensures { OnOk result (self.new ≡ add self.old (Reference name.now)) }
     {
-        if is_bound(self.bound.as_slice(), name) {
+        if self.bound.has(name) {
             return push_name(alloc, &mut self.bytes, name);
         }
-        let k = position_of(self.names.as_slice(), name);
+        let k = self.names.position_of(name);
         push_replaced(alloc, &mut self.bytes, k, name)
     }
 
     /// Code begins that binds these names.
     #[tactic(auto, unfolding(script_text::specs::CodeLine::add))]
-    pub fn bind(&mut self, names: Seq<Text>) -> Result<(), NoMemory>
+    pub fn bind(&mut self, alloc: Global, names: Seq<Text>) -> Result<(), NoMemory>
         ensures { OnOk result (self.new ≡ add self.old (Bind names)) }
     {
-        self.bound.push(names)?;
+        let bound = replace(&mut self.bound, BoundNames::new(alloc));
+        self.bound = bound.enter(alloc, names)?;
         Ok(())
     }
 
@@ -138,6 +117,6 @@ impl CodeLine {
     pub fn release(&mut self)
         ensures { self.new ≡ add self.old Release }
     {
-        self.bound.pop();
+        self.bound.leave();
     }
 }

@@ -3,6 +3,7 @@
 
 mod bound;
 mod code_line;
+mod name_places;
 mod page;
 mod sheet;
 mod words;

@@ -38,7 +38,7 @@ impl Sheet {
         ensures { IfOk result (λ sheet. sheet ≡ AsCode (empty_line names.now)) }
     {
         let names = copies(alloc, names)?;
-        Ok(Sheet::Code(CodeLine::new(alloc, names)))
+        Ok(Sheet::Code(CodeLine::new(alloc, names)?))
     }
 
     /// What was put, as bytes.
@@ -178,7 +178,7 @@ impl Sheet {
             Sheet::Code(line) => {
                 let mut names = Seq::new(alloc);
                 names.push(name.copy(alloc)?)?;
-                line.bind(names)
+                line.bind(alloc, names)
             }
         }
     }
@@ -196,7 +196,7 @@ impl Sheet {
     {
         match self {
             Sheet::Lines(_) => Ok(()),
-            Sheet::Code(line) => line.bind(bound_names(alloc, funcs, f, named)?),
+            Sheet::Code(line) => line.bind(alloc, bound_names(alloc, funcs, f, named)?),
         }
     }
 

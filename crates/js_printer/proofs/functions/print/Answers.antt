@@ -14,4 +14,4 @@ returns-clause-back c =
     let pieces = script_pieces s in
     let is : c.into_bytes.result ≡ script_text s =
     c.into_bytes.ensures ∙ ap bytes_of (c.in_ok-script.ensures ∙ ap (put_all pieces) c.lines-page.ensures ∙ put_all-Lines pieces blank) in
-    λ readable. subst (λ b. GivesBack b s) (sym is) (gives_back c.lexing_back.ensures c.reading_back.ensures c.reading_laws.ensures.limits c.reading_limits.ensures c.early_back.ensures.faults c.early_back.ensures.readable s readable)
+    λ readable. subst (λ b. GivesBack b s) (sym is) (gives_back c.lexing_back.ensures c.reading_back.ensures c.early_back.ensures.faults c.early_back.ensures.readable s readable)

@@ -1,8 +1,7 @@
 use Rattle.std.proofs.Common.{sym, ◌∙◌, length}
 use Rattle.std.proofs.lemmas.Result.{err_from_is_err_and}
 use Rattle.js_tree.specs.Count.{nodes}
-use Rattle.simple_runs.specs.Readable.{placed}
-use Rattle.prepack_core.proofs.Promising.{few_steps, refused_reason, taken-simple, taken-not_built, residual_of, reason_of}
+use Rattle.prepack_core.proofs.Promising.{few_steps, refused_reason, taken-simple, taken-not_built, residual_of, finished_of, reason_of}
 use Rattle.prepack_core.proofs.answer.answer.Goals as goal
 
 pub returns-in_err-script-clause-err : goal.returns-in_err-script-clause-err
@@ -25,13 +24,15 @@ returns-in-Err-clause-err c =
 pub returns-clause-ok : goal.returns-clause-ok
 returns-clause-ok c =
     let s = c.in_ok-script.script in
+    let simple = sym c.in_ok-is_simple.ensures ∙ c.if-not-branch.false in
+    let few = c.few_nodes_law.ensures c.args.source.now 200 s c.in_ok-script.ensures simple in
+    residual_of c.args.steps c.args.source.now c.in_ok-residual_text-in-Ok.field-0.items s c.in-Ok.variables c.simple_run_law.ensures c.simple_listing_law.ensures simple c.in_ok-script.ensures
+    (few_steps (nodes s) (length c.args.source.now) c.args.steps few c.requires.short c.requires.enough) c.in-Ok.ensures c.in_ok-residual_text-in-Ok.ensures
+
+pub returns-clause-finished : goal.returns-clause-finished
+returns-clause-finished c =
+    let s = c.in_ok-script.script in
+    let simple = sym c.in_ok-is_simple.ensures ∙ c.if-not-branch.false in
     let takes = taken-simple c.args.source.now s c.in_ok-is_simple.field-0 c.in_ok-script.ensures c.in_ok-is_simple.ensures c.if-not-branch.false in
-    let few = c.few_nodes_law.ensures c.args.source.now 200 s c.in_ok-script.ensures (sym c.in_ok-is_simple.ensures ∙ c.if-not-branch.false) in
-    let law = c.snapshot_law.ensures in
-    let vs = c.in-Ok.variables in
-    let whole = c.small_form_law.ensures in
-    let readable = c.residual_text.ensures.readable in
-    residual_of c.args.steps c.args.source.now c.in_ok-residual_text-in-Ok.field-0.items s vs c.simple_run_law.ensures c.simple_listing_law.ensures c.simple_text_law.ensures (sym c.in_ok-is_simple.ensures ∙ c.if-not-branch.false) readable c.in_ok-script.ensures takes
-    (few_steps (nodes s) (length c.args.source.now) c.args.steps few c.requires.short c.requires.enough) c.in-Ok.ensures
-    (c.in_ok-residual_text-in-Ok.ensures.text ∙ sym (law.spelled vs readable)) (c.residual_law.ensures.reads_back vs readable) (whole.form (placed vs) (law.residual vs)) (whole.fresh (placed vs) s (law.residual vs)) (law.same_text vs readable)
-    (λ w. law.rebuilds vs w readable c.residual_text.ensures.distinct)
+    let few = c.few_nodes_law.ensures c.args.source.now 200 s c.in_ok-script.ensures simple in
+    finished_of c.args.steps c.args.source.now s c.in-Ok.variables c.simple_run_law.ensures simple takes (few_steps (nodes s) (length c.args.source.now) c.args.steps few c.requires.short c.requires.enough) c.in-Ok.ensures

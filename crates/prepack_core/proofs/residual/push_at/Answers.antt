@@ -1,15 +1,13 @@
-use Rattle.std.proofs.Common.{◌++◌, ap, sym, ◌∙◌}
-use Rattle.std.specs.Prelude.{codes, if◌then◌else◌, ◌==◌}
+use Rattle.std.proofs.Common.{◌++◌, [], ◌∷◌, ap, sym, ◌∙◌, map, take}
 use Rattle.std.proofs.lemmas.Result.{on_ok_weaker}
-use Rattle.simple_runs.specs.Readable.{variable_text}
-use Rattle.prepack_core.specs.Values.{primitive_of}
-use Rattle.prepack_core.proofs.Listed.{listed-more}
+use Rattle.residual_form.specs.Snapshot.{variable}
+use Rattle.prepack_core.proofs.Snapshots.{one_more}
 use Rattle.prepack_core.proofs.residual.push_at.Goals as goal
 
 pub returns : goal.returns
 returns c =
-    let text = variable_text (c.in-Some.name.now, primitive_of c.in-Some.value) in
-    on_ok_weaker c.push_variable.result
-    (λ e. e ∙ (ap (λ t. t ++ text) (c.in_ok-extend_from_slice.ensures.items ∙ (ap (λ t. c.args.text.now.items ++ t) c.separator.ensures ∙ ap (λ t. t ++ (if c.args.i == 0 then codes "var " else codes ", ")) c.requires.before))
-    ∙ listed-more c.args.variables.now c.args.i (c.in-Some.name.now, primitive_of c.in-Some.value) (sym c.in-Some.ensures.entry)))
-    c.push_variable.ensures
+    let vs = c.args.variables.now in
+    let i = c.args.i in
+    on_ok_weaker c.push.result
+    (λ e. e ∙ ap (λ ds. ds ++ c.in_ok-variable.field-0 ∷ []) c.requires.before ∙ ap (λ d. map variable (take i vs) ++ d ∷ []) (c.in_ok-variable.ensures {u = tt}) ∙ one_more vs i _ (sym c.in-Some.ensures))
+    c.push.ensures.ok

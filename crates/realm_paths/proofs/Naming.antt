@@ -1,8 +1,0 @@
--- The names compute.
-use Rattle.std.proofs.Common.{refl}
-use Rattle.js_machine.specs.Machine.Realm.{realm_names}
-use Rattle.realm_paths.specs.Named.{PathsAreNames}
-
-pub paths_are_names : PathsAreNames
-unfolding realm_names
-paths_are_names = refl

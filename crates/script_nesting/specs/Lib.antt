@@ -1,0 +1,5 @@
+pub mod Highest
+pub mod Height
+pub mod Opened
+pub mod Nesting
+pub mod NestingCases
