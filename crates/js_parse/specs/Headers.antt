@@ -6,7 +6,7 @@ use Rattle.js_tree.specs.declared.refusal.ReadRefused.TheVariants.{NoMemory}
 use Rattle.js_tree.specs.declared.statement.Stmt.{Stmt}
 use Rattle.js_tree.specs.declared.statement.StmtForm.{StmtForm}
 use Rattle.js_tree.specs.declared.statement.StmtForm.TheVariants as s
-use Rattle.js_grammar.specs.Rest.{Rest, Reading, ◌>>=◌, ◌>>◌, give, sees}
+use Rattle.js_grammar.specs.Rest.{Rest, Reading, ◌>>=◌, give, sees}
 use Rattle.js_grammar.specs.Marks
 use Rattle.js_grammar.specs.Primary.{expression}
 use Rattle.js_grammar.specs.Reading.{grammar}

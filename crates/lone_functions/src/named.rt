@@ -4,10 +4,10 @@ ghost use Rattle.std.specs.Prelude.{◌≡◌, min, length};
 ghost use Rattle.js_grammar.specs.FunctionOrder as order;
 ghost use Rattle.lone_functions.specs.Named as spec;
 
-use js_value::Box;
 use js_tree::{
     Case, Catch, Declarator, Expr, ExprForm, Field, Finally, ForStart, ForTarget, Stmt, StmtForm,
 };
+use js_value::Box;
 
 #[cycle(expression_functions)]
 #[tactic(auto, using(crate::proofs::Counted::expression_sizes))]

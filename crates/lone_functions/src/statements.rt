@@ -198,7 +198,11 @@ impl Anew {
                 self.stmt(body)?,
             )),
             StmtForm::ForIn(to, object, body) => {
-                Ok(StmtForm::ForIn(Box::new(self.alloc, self.for_target(to)?)?, self.expr(object)?, self.stmt(body)?))
+                Ok(StmtForm::ForIn(
+                    Box::new(self.alloc, self.for_target(to)?)?,
+                    self.expr(object)?,
+                    self.stmt(body)?,
+                ))
             }
             StmtForm::Continue => Ok(StmtForm::Continue),
             StmtForm::Break => Ok(StmtForm::Break),

@@ -184,7 +184,10 @@ fn in_case<'a>(c: &'a Case, items: &mut Vec<Item<'a>>) -> Result<(), NoMemory>
 }
 
 #[cycle(stmt_items)]
-fn in_handler<'a>(handler: &'a Option<Box<Catch>>, items: &mut Vec<Item<'a>>) -> Result<(), NoMemory>
+fn in_handler<'a>(
+    handler: &'a Option<Box<Catch>>,
+    items: &mut Vec<Item<'a>>,
+) -> Result<(), NoMemory>
     ensures { OnOk result (spec.told items.new.items ≡ spec.told items.old.items ++ spec.in_handler handler.now) }
 {
     match handler {
