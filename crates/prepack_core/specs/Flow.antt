@@ -1,7 +1,7 @@
 -- What many writes do together.
 use Rattle.std.specs.Prelude.{◌≡◌, ℕ, ◌≤◌, List, take, ◌⊎◌}
 use Rattle.std.specs.declared.option.Option.{Option}
-use Rattle.prepack_core.specs.Io.{Rose, after_held}
+use Rattle.pp_io.specs.Streams.{Rose, after_held}
 
 -- a front of a text was appended, the whole where no write failed
 pub record IsAppended (old now : Option (List ℕ)) (faults_old faults_now : ℕ) (text : List ℕ) : Type 0 where

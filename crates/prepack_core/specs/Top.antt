@@ -1,7 +1,7 @@
 -- What a run of the whole program comes to, by what the source told before and after.
 use Rattle.std.specs.Prelude.{◌≡◌, ℕ, ◌-◌, ◌≤◌, List, [], length, take, None, Some, IsSome, ◌⊎◌, Bool, true, false}
 use Rattle.std.specs.declared.option.Option.{Option}
-use Rattle.prepack_core.specs.Io.{Rose, after_held, IsEmptied}
+use Rattle.pp_io.specs.Streams.{Rose, after_held, IsEmptied}
 use Rattle.prepack_core.specs.Flow.{IsAppended}
 use Rattle.js_value.specs.declared.place.Place.{Place}
 use Rattle.js_value.specs.declared.why.Why.{Why}

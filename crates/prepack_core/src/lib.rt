@@ -4,9 +4,6 @@
 mod answer;
 mod evaluate;
 mod flow;
-mod host;
-mod io;
-mod memory;
 mod paths;
 mod report;
 mod residual;
@@ -17,9 +14,6 @@ mod words;
 
 pub use evaluate::Departure;
 pub use flow::{Fetched, SOURCE_LIMIT, fetch, write_text};
-pub use host::{Host, ListHost, Reply};
-pub use io::{Got, Sink, Source, StdSink, StdSource, Wrote};
-pub use memory::{MemorySink, MemorySource};
 pub use paths::paths_law;
 pub use report::{Report, Status, tell};
 pub use top::prepack;

@@ -1,6 +1,6 @@
 ghost use Rattle.std.specs.Prelude.{◌≡◌, ◌++◌, decimal};
 ghost use Rattle.std.specs.Bool.{OnTrue, OnFalse};
-ghost use Rattle.prepack_core.specs.Io.{Rose, after_held};
+ghost use Rattle.pp_io.specs.Streams.{Rose, after_held};
 ghost use Rattle.prepack_core.specs.Flow.{IsAppended};
 ghost use Rattle.prepack_core.specs.Report as spec;
 

@@ -1,5 +1,5 @@
 ghost use Rattle.std.specs.Prelude.{◌≡◌, ◌≢◌, ◌↔◌, ◌⊎◌, ◌+◌, ◌<◌, ◌≤◌, None, IsTrue, IsSome, IfOk, IfErr, map, length, string_bytes};
-ghost use Rattle.prepack_core.specs.Io.{Rose, before_left, IsEmptied};
+ghost use Rattle.pp_io.specs.Streams.{Rose, before_left, IsEmptied};
 ghost use Rattle.prepack_core.specs.Words.{command};
 ghost use Rattle.prepack_core.specs.Promises.{IsResidualOf, IsFinished, IsNoScript, IsUnsupported, IsNested};
 ghost use Rattle.js_value.specs.declared.place.Place.{Place};
