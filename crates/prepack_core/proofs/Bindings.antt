@@ -1,12 +1,10 @@
 -- Variables in a map as the properties of the global object.
-use Rattle.std.proofs.Common.{◌≡◌, ℕ, Bool, true, false, cond, List, [], ◌∷◌, refl, ap, sym, ◌∙◌}
-use Rattle.std.specs.Prelude.{Some, ◌&&◌, slice_get}
+use Rattle.std.proofs.Common.{◌≡◌, ℕ, Bool, true, false, cond, List, [], ◌∷◌, refl, ap}
+use Rattle.std.specs.Prelude.{Some, ◌&&◌}
 use Rattle.std.specs.Option.{option_map}
 use Rattle.std.specs.List.{list_all}
 use Rattle.std.specs.Map.{lookup as entry_of, keys_of}
 use Rattle.std.proofs.lemmas.Bool.{and_parts, and_from}
-use Rattle.std.proofs.lemmas.Option.{get_or_from_slice_get, slice_get_within}
-use Rattle.std.proofs.lemmas.List.Sums.{AllPass-from_list_all}
 use Rattle.simple_scripts.specs.SimpleNames.{is_simple_name}
 use Rattle.simple_runs.specs.PlainVariables.{is_plain_value, is_plain_variable, are_plain_variables}
 use Rattle.std.specs.Str.{bytes_eq}

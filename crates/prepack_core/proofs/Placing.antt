@@ -29,7 +29,7 @@ use Rattle.reading_back.proofs.Same.{Layer, unplaced_layer}
 use Rattle.reading_back.specs.Unplaced as unplaced
 use Rattle.early_back.proofs.Hoisted.{unplaced_form}
 use Rattle.early_back.proofs.RelatedStatements as RS
-use Rattle.simple_runs.specs.Placed.{Places, constant_at, variable_at, behind, variables_at, var_at, placed}
+use Rattle.simple_runs.specs.Placed.{Places, constant_at, variable_at, variables_at, var_at, placed}
 
 -- ---- expressions
 

@@ -1,6 +1,6 @@
 -- Simple names are identifiers.
-use Rattle.std.proofs.Common.{◌≡◌, ℕ, ◌<◌, Bool, true, false, cond, List, [], ◌∷◌, map, take, drop, refl, ap, sym, ◌∙◌, ⊎_elim, arith}
-use Rattle.std.specs.Prelude.{codes, not, ◌&&◌, Option, Some, None, is_none, nat_lt}
+use Rattle.std.proofs.Common.{◌≡◌, ℕ, ◌<◌, true, false, cond, List, [], ◌∷◌, map, take, drop, refl, ap, sym, ◌∙◌, ⊎_elim, arith}
+use Rattle.std.specs.Prelude.{codes, not, ◌&&◌, Some, None, nat_lt}
 use Rattle.std.specs.Char.Utf16.{utf16_chars, is_high_surrogate, is_low_surrogate, lone_unit_char, surrogate_pair_char}
 use Rattle.std.specs.List.{list_all, list_any}
 use Rattle.std.specs.Str.{bytes_eq}

@@ -1,18 +1,15 @@
 -- The residual of variables, as it is built.
-use Rattle.std.proofs.Common.{◌≡◌, ℕ, zero, suc, pos, negsuc, ◌+◌, ◌<◌, List, [], ◌∷◌, ◌++◌, length, map, take, refl, ap, sym, ◌∙◌, arith}
-use Rattle.std.specs.Prelude.{◌≤ℤ◌, neg_ℤ, slice_get, Some}
+use Rattle.std.proofs.Common.{◌≡◌, ℕ, ◌+◌, ◌<◌, List, [], ◌∷◌, ◌++◌, length, map, take, refl, ap, sym, ◌∙◌, arith}
+use Rattle.std.specs.Prelude.{slice_get, Some}
 use Rattle.std.proofs.lemmas.List.{map-append, take_more}
 use Rattle.std.proofs.lemmas.Option.{get_or_from_slice_get, slice_get_within}
-use Rattle.js_value.specs.declared.operator.UnaryOp.TheVariants as unary
 use Rattle.js_value.specs.declared.primitive.Primitive.{Primitive}
-use Rattle.js_value.specs.declared.primitive.Primitive.TheVariants as primitive
-use Rattle.js_tree.specs.Trees.{expr, stmt, script, one}
-use Rattle.js_tree.specs.declared.expression.ExprForm.TheVariants as form
+use Rattle.js_tree.specs.Trees.{stmt, script, one}
 use Rattle.js_tree.specs.declared.statement.Func.{Func}
 use Rattle.js_tree.specs.declared.statement.Script.{Script}
 use Rattle.js_tree.specs.declared.statement.Stmt.{Stmt}
 use Rattle.js_tree.specs.declared.statement.StmtForm.TheVariants as statement
-use Rattle.residual_form.specs.Snapshot.{literal, constant, variable, snapshot}
+use Rattle.residual_form.specs.Snapshot.{variable, snapshot}
 
 -- one more declarator
 pub one_more : (vs : List (List ℕ × Primitive)) (i : ℕ) (v : List ℕ × Primitive) → slice_get vs i ≡ Some v → map variable (take i vs) ++ variable v ∷ [] ≡ map variable (take (i + 1) vs)

@@ -1,5 +1,5 @@
 -- The residual of variables rebuilds them, a step for each statement and expression.
-use Rattle.std.proofs.Common.{◌≡◌, ℕ, suc, pos, negsuc, ◌+◌, true, false, List, [], ◌∷◌, length, map, refl, ap, ◌∙◌, sym, zero-add, arith}
+use Rattle.std.proofs.Common.{◌≡◌, ℕ, suc, pos, negsuc, ◌+◌, true, false, List, [], ◌∷◌, map, refl, ap, ◌∙◌, sym, zero-add, arith}
 use Rattle.std.specs.Prelude.{ℤ, Option, Some, None, Ok, Err}
 use Rattle.std.specs.List.{flat_map, AllByRecursion, IsDistinct}
 use Rattle.std.specs.Map.{keys_of}
