@@ -4,10 +4,11 @@ ghost use Rattle.pp_io.specs.Streams.{Rose, after_held};
 ghost use Rattle.prepack_core.specs.Flow.{IsAppended};
 ghost use Rattle.prepack_core.specs.Report as spec;
 
-use crate::{Sink, write_text};
+use crate::write_text;
 use itoa::Buffer;
 use js_tree::Feature;
 use js_value::{Place, Why};
+use pp_io::Sink;
 
 /// How a run of the program ends.
 #[derive(Clone, Copy, Debug, PartialEq, Eq)]

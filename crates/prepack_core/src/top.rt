@@ -8,9 +8,9 @@ ghost use Rattle.js_tree.specs.declared.refusal.Feature.{Feature};
 ghost use Rattle.prepack_core.specs.Top.{bytes_given, IsTextOf, IsAnswered, IsStopped, reads_whole, writes, HasReason, IsRefusal, IsRead, IsDelivered, IsTold, Expects};
 
 use crate::answer::answer;
-use crate::{
-    Command, Fetched, Host, Report, Sink, Source, Status, fetch, read_words, tell, write_text,
-};
+use crate::{Command, Fetched, Report, Status, fetch, read_words, tell, write_text};
+use host_box::Host;
+use pp_io::{Sink, Source};
 use std::alloc::Global;
 
 /// Reads a source, and answers it with the text of its residual.

@@ -1,4 +1,6 @@
-use prepack_core::{ListHost, MemorySink, MemorySource, Status, prepack};
+use host_box::ListHost;
+use pp_io::{MemorySink, MemorySource};
+use prepack_core::{Status, prepack};
 use std::alloc::Global;
 use std::test::Fail;
 

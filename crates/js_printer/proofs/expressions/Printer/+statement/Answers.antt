@@ -49,12 +49,12 @@ statement_form-returns-in_ok-head-in-While g t c =
 pub statement_form-returns-in_ok-for_head-in-For : goal.statement_form-returns-in_ok-for_head-in-For
 statement_form-returns-in_ok-for_head-in-For g t c =
     let w = c.in-For in
-    on_ok_along c.statement-in-For.result _ _ _ c.statement-in-For.ensures (rw (w.is, put-For (function_to c.args.self.now.depth c.args.self.now.funcs.now) w.from w.test w.step w.body c.args.page.now, c.in_ok-for_head-in-For.ensures) refl)
+    on_ok_along c.statement-in-For.result _ _ _ c.statement-in-For.ensures (rw (w.is, put-For (function_to c.args.self.now.depth c.args.self.now.funcs.now) w.from w.test w.step w.body c.args.page.now, c.in_ok-for_head-in-For.ensures, c.deref.ensures, c.deref-in-For.ensures, c.deref-in-For-2.ensures) refl)
 
 pub statement_form-returns-in_ok-for_in_head-in-ForIn : goal.statement_form-returns-in_ok-for_in_head-in-ForIn
 statement_form-returns-in_ok-for_in_head-in-ForIn g t c =
     let w = c.in-ForIn in
-    on_ok_along c.statement-in-ForIn.result _ _ _ c.statement-in-ForIn.ensures (rw (w.is, put-ForIn (function_to c.args.self.now.depth c.args.self.now.funcs.now) w.to w.object w.body c.args.page.now, c.in_ok-for_in_head-in-ForIn.ensures) refl)
+    on_ok_along c.statement-in-ForIn.result _ _ _ c.statement-in-ForIn.ensures (rw (w.is, put-ForIn (function_to c.args.self.now.depth c.args.self.now.funcs.now) w.to w.object w.body c.args.page.now, c.in_ok-for_in_head-in-ForIn.ensures, c.deref-in-ForIn.ensures) refl)
 
 pub statement_form-returns-in_ok-word-in-Continue : goal.statement_form-returns-in_ok-word-in-Continue
 statement_form-returns-in_ok-word-in-Continue g t c =
@@ -150,7 +150,7 @@ statement_form-returns-in-Some-last g t c =
     let w = c.in-Try in
     let k = w.is ∙ ap (λ o. s.Try w.body o w.last) c.in-None-handler.is ∙ ap (s.Try w.body None) c.in-Some-last.is in
     on_ok_along c.last.result _ _ _ c.last.ensures
-    (rw (k, put-TryFinally F w.body c.in-Some-last.last c.args.page.now, c.in_ok-try_block-in-Try.ensures, c.as_slice-in-Try.ensures) refl)
+    (rw (k, put-TryFinally F w.body c.in-Some-last.last c.args.page.now, c.in_ok-try_block-in-Try.ensures, c.as_slice-in-Try.ensures, c.deref-in-Some-last.ensures) refl)
 
 pub statement_form-returns-in-None-last-2 : goal.statement_form-returns-in-None-last-2
 statement_form-returns-in-None-last-2 g t c =
@@ -159,7 +159,7 @@ statement_form-returns-in-None-last-2 g t c =
     let h = c.in-Some-handler.handler in
     let k = w.is ∙ ap (λ o. s.Try w.body o w.last) c.in-Some-handler.is ∙ ap (s.Try w.body (Some h)) c.in-None-last-2.is in
     c.in_ok-handler-in-Some-handler.ensures
-    ∙ rw (k, put-TryCatch F w.body h c.args.page.now, c.in_ok-try_block-in-Try.ensures, c.as_slice-in-Try.ensures) refl
+    ∙ rw (k, put-TryCatch F w.body h c.args.page.now, c.in_ok-try_block-in-Try.ensures, c.as_slice-in-Try.ensures, c.deref-in-Some-handler.ensures) refl
 
 pub statement_form-returns-in-Some-last-2 : goal.statement_form-returns-in-Some-last-2
 statement_form-returns-in-Some-last-2 g t c =
@@ -168,4 +168,4 @@ statement_form-returns-in-Some-last-2 g t c =
     let h = c.in-Some-handler.handler in
     let k = w.is ∙ ap (λ o. s.Try w.body o w.last) c.in-Some-handler.is ∙ ap (s.Try w.body (Some h)) c.in-Some-last-2.is in
     on_ok_along c.last-in-Some-last-2.result _ _ _ c.last-in-Some-last-2.ensures
-    (rw (k, put-TryBoth F w.body h c.in-Some-last-2.last c.args.page.now, c.in_ok-handler-in-Some-handler.ensures, c.in_ok-try_block-in-Try.ensures, c.as_slice-in-Try.ensures) refl)
+    (rw (k, put-TryBoth F w.body h c.in-Some-last-2.last c.args.page.now, c.in_ok-handler-in-Some-handler.ensures, c.in_ok-try_block-in-Try.ensures, c.as_slice-in-Try.ensures, c.deref-in-Some-handler.ensures, c.deref-in-Some-last-2.ensures) refl)
