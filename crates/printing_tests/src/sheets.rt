@@ -80,19 +80,34 @@ fn two_names(alloc: Global) -> Result<Seq<Text>, NoMemory> {
     Ok(names)
 }
 
-fn code(alloc: Global) -> Result<Bytes, NoMemory> {
-    let names = two_names(alloc)?;
-    let a = text(alloc, "a")?;
-    let mut sheet = Sheet::code(alloc, names.as_slice())?;
-    sheet.opening(b"{")?;
-    sheet.bind_name(alloc, &a)?;
+fn put_reference(alloc: Global, sheet: &mut Sheet, name: &str) -> Result<(), NoMemory> {
+    sheet.reference(alloc, &text(alloc, name)?)
+}
+
+fn put_bound(alloc: Global, sheet: &mut Sheet, name: &str) -> Result<(), NoMemory> {
+    sheet.bind_name(alloc, &text(alloc, name)?)?;
     sheet.end_line()?;
-    sheet.reference(alloc, &a)?;
+    put_reference(alloc, sheet, name)
+}
+
+fn put_assignment(alloc: Global, sheet: &mut Sheet) -> Result<(), NoMemory> {
+    put_bound(alloc, sheet, "a")?;
     sheet.word(b"=")?;
-    sheet.reference(alloc, &text(alloc, "b")?)?;
+    put_reference(alloc, sheet, "b")
+}
+
+fn put_code(alloc: Global, sheet: &mut Sheet) -> Result<(), NoMemory> {
+    sheet.opening(b"{")?;
+    put_assignment(alloc, sheet)?;
     sheet.closing(b";")?;
     sheet.release();
-    sheet.reference(alloc, &a)?;
+    put_reference(alloc, sheet, "a")
+}
+
+fn code(alloc: Global) -> Result<Bytes, NoMemory> {
+    let names = two_names(alloc)?;
+    let mut sheet = Sheet::code(alloc, names.as_slice())?;
+    put_code(alloc, &mut sheet)?;
     Ok(sheet.into_bytes())
 }
 
