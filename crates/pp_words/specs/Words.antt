@@ -1,0 +1,138 @@
+-- What the words of a command line ask for. A word is a list of bytes of UTF-8.
+use Rattle.std.specs.Prelude.{ℕ, ℤ, pos, neg_ℤ, ◌==◌, ◌&&◌, Bool, true, false, not, nat_le, List, [], ◌∷◌, ◌×◌, Option, Some, None, if◌then◌else◌, length, drop, slice_index, codes}
+use Rattle.std.specs.List.{before_first, after_first, list_any, list_all}
+use Rattle.std.specs.Str.{bytes_eq}
+use Rattle.js_value.specs.Conversions.{are_digits, digits_value}
+use Rattle.js_value.specs.Numbers.{is_safe}
+use Rattle.js_value.specs.Texts.{units_of}
+use Rattle.js_value.specs.declared.primitive.Primitive.{Primitive}
+use Rattle.js_value.specs.declared.primitive.Primitive.TheVariants.{Boolean, Number, Text}
+use Rattle.pp_words.specs.declared.command.Command.{Command}
+use Rattle.pp_words.specs.declared.command.Command.TheVariants.{Eval, Run}
+use Rattle.pp_words.specs.declared.command.Item.{Item}
+
+-- the bytes of a word
+abbrev pub Word : Type 0
+Word = List ℕ
+
+-- what is there is handed on
+infixl 20 ◌>>=◌
+abbrev pub ◌>>=◌ : {A B : Type 0} → Option A → (A → Option B) → Option B
+◌>>=◌ None next = None
+◌>>=◌ (Some a) next = next a
+
+-- 61 is `=`
+abbrev pub is_equals : ℕ → Bool
+is_equals b = b == 61
+
+abbrev pub before_equals : Word → Word
+before_equals word = before_first is_equals word
+
+-- what stands behind the first `=`
+abbrev pub behind_equals : Word → Option Word
+behind_equals word = if list_any is_equals word then Some (after_first is_equals word) else None
+
+abbrev pub begins : ℕ → Word → Bool
+begins byte word = nat_le 1 (length word) && slice_index word 0 == byte
+
+-- ---- the option
+
+-- one more value of the option, one more plain word
+abbrev pub with_value : Word → List Word × List Word → Option (List Word × List Word)
+with_value value divided = Some (value ∷ divided.0, divided.1)
+
+abbrev pub with_plain : Word → List Word × List Word → Option (List Word × List Word)
+with_plain word divided = Some (divided.0, word ∷ divided.1)
+
+-- The values of `--steps` and the plain words; `true` where the word before was `--steps`, so that the next is its value. 45 is `-`.
+abbrev pub divided : Bool → List Word → Option (List Word × List Word)
+divided true [] = None
+divided true (value ∷ rest) = divided false rest >>= with_value value
+divided false [] = Some ([], [])
+divided false (word ∷ rest) =
+    if bytes_eq word (codes "--") then Some ([], rest)
+    else (if bytes_eq word (codes "--steps") then divided true rest
+    else (if bytes_eq (before_equals word) (codes "--steps") then divided false rest >>= with_value (after_first is_equals word)
+    else (if begins 45 word then None
+    else divided false rest >>= with_plain word)))
+
+-- one to nine digits, from 1 to 100,000,000
+abbrev pub budget : Word → Option ℕ
+budget word =
+    if are_digits word && nat_le (length word) 9 && nat_le 1 (digits_value word) && nat_le (digits_value word) 100000000
+    then Some (digits_value word) else None
+
+-- the option at most once
+abbrev pub steps : List Word → Option ℕ
+steps [] = Some 1000000
+steps (value ∷ []) = budget value
+steps (value ∷ (other ∷ rest)) = None
+
+-- ---- items
+
+-- digits without a leading zero (48), in the profile's range
+abbrev pub unsigned : (ℕ → ℤ) → Word → Option ℤ
+unsigned sign word =
+    if are_digits word && not (begins 48 word) && is_safe (pos (digits_value word)) then Some (sign (digits_value word)) else None
+
+abbrev pub number : Word → Option ℤ
+number word =
+    if bytes_eq word (codes "0") then Some (pos 0)
+    else (if begins 45 word then unsigned (λ n. neg_ℤ (pos n)) (drop 1 word) else unsigned pos word)
+
+-- a number, or a string of which one leading `'` (39) is dropped
+abbrev pub number_or_text : Option ℤ → Word → Primitive
+number_or_text (Some n) word = Number n
+number_or_text None word = Text (units_of (if begins 39 word then drop 1 word else word))
+
+abbrev pub value : Word → Primitive
+value word =
+    if bytes_eq word (codes "true") then Boolean true
+    else (if bytes_eq word (codes "false") then Boolean false
+    else number_or_text (number word) word)
+
+-- the value of an answer that begins with `!` (33) is thrown, and the rest is read as a value
+abbrev pub answer : Word → Item
+answer word =
+    if begins 33 word then record { name = []; value = value (drop 1 word); threw = true }
+    else record { name = []; value = value word; threw = false }
+
+-- an input of the name before the first `=`, an answer where that name is empty
+abbrev pub item : Word → Option Item
+item word = do
+  given ← behind_equals word
+  Some (if length (before_equals word) == 0 then answer given
+    else record { name = units_of (before_equals word); value = value given; threw = false })
+
+abbrev pub is_named : List ℕ → Item → Bool
+is_named name item = nat_le 1 (length name) && bytes_eq item.name name
+
+-- items whose inputs have names of their own
+abbrev pub items : List Word → Option (List Item)
+items [] = Some []
+items (word ∷ rest) = do
+  first ← item word
+  others ← items rest
+  if list_any (is_named first.name) others then None else Some (first ∷ others)
+
+-- ---- commands
+
+abbrev pub eval : ℕ → List Word → Option Command
+eval n [] = Some (Eval n)
+eval n (word ∷ rest) = None
+
+abbrev pub run : ℕ → List Word → Option Command
+run n words = items words >>= (λ all. Some (Run n all))
+
+abbrev pub named : ℕ → List Word → Option Command
+named n [] = None
+named n (name ∷ words) =
+    if bytes_eq name (codes "eval") then eval n words
+    else (if bytes_eq name (codes "run") then run n words else None)
+
+-- what the words ask for, or nothing where they have another form
+abbrev pub command : List Word → Option Command
+command words = do
+  parts ← divided false words
+  n ← steps parts.0
+  named n parts.1
