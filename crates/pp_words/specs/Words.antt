@@ -1,6 +1,6 @@
 -- What the words of a command line ask for. A word is a list of bytes of UTF-8.
 use Rattle.std.specs.Prelude.{ℕ, ℤ, pos, neg_ℤ, ◌==◌, ◌&&◌, Bool, true, false, not, nat_le, List, [], ◌∷◌, Option, Some, None, if◌then◌else◌, length, drop, slice_index, codes}
-use Rattle.std.specs.List.{before_first, after_first, list_any, list_all}
+use Rattle.std.specs.List.{before_first, after_first, list_any}
 use Rattle.std.specs.Str.{bytes_eq}
 use Rattle.js_value.specs.Conversions.{are_digits, digits_value}
 use Rattle.js_value.specs.Numbers.{is_safe}
@@ -102,7 +102,7 @@ abbrev pub item : Word → Option Item
 item word = do
   given ← behind_equals word
   Some (if length (before_equals word) == 0 then answer given
-    else record { name = units_of (before_equals word); value = value given; threw = false })
+      else record { name = units_of (before_equals word); value = value given; threw = false })
 
 abbrev pub is_named : List ℕ → Item → Bool
 is_named name item = nat_le 1 (length name) && bytes_eq item.name name
