@@ -1,9 +1,11 @@
 -- What the words of a command line ask for. A word is a list of bytes of UTF-8.
-use Rattle.std.specs.Prelude.{ℕ, ℤ, pos, neg_ℤ, ◌==◌, ◌&&◌, Bool, true, false, not, nat_le, List, [], ◌∷◌, Option, Some, None, if◌then◌else◌, length, drop, slice_index, codes}
+use Rattle.std.specs.Prelude.{ℕ, ℤ, ◌++◌, unwrap_or, nat_eq, pos, neg_ℤ, ◌==◌, ◌&&◌, Bool, true, false, not, nat_le, List, [], ◌∷◌, Option, Some, None, if◌then◌else◌, length, slice_index, codes}
 use Rattle.std.specs.List.{before_first, after_first, list_any}
 use Rattle.std.specs.Str.{bytes_eq}
 use Rattle.js_value.specs.Conversions.{are_digits, digits_value}
-use Rattle.js_value.specs.Numbers.{is_safe}
+use Rattle.std.specs.Cmp.Lexicographic.{pointwise}
+use Rattle.clap.specs.Lexer.{strip_byte, name_and_value}
+use Rattle.js_value.specs.Numbers.{greatest_magnitude}
 use Rattle.js_value.specs.Texts.{units_of}
 use Rattle.js_value.specs.declared.primitive.Primitive.{Primitive}
 use Rattle.js_value.specs.declared.primitive.Primitive.TheVariants.{Boolean, Number, Text}
@@ -27,10 +29,6 @@ is_equals b = b == 61
 
 abbrev pub before_equals : Word → Word
 before_equals word = before_first is_equals word
-
--- what stands behind the first `=`
-abbrev pub behind_equals : Word → Option Word
-behind_equals word = if list_any is_equals word then Some (after_first is_equals word) else None
 
 abbrev pub begins : ℕ → Word → Bool
 begins byte word = nat_le 1 (length word) && slice_index word 0 == byte
@@ -71,19 +69,22 @@ steps (value ∷ (other ∷ rest)) = None
 -- ---- items
 
 -- digits without a leading zero (48), in the profile's range
-abbrev pub unsigned : (ℕ → ℤ) → Word → Option ℤ
-unsigned sign word =
-    if are_digits word && not (begins 48 word) && is_safe (pos (digits_value word)) then Some (sign (digits_value word)) else None
+abbrev pub magnitude : Word → Option ℕ
+magnitude word =
+    if are_digits word && not (begins 48 word) && nat_le (digits_value word) greatest_magnitude then Some (digits_value word) else None
+
+-- what stands behind an optional `-` (45), with the sign
+abbrev pub signed : Option Word → Word → Option ℤ
+signed (Some digits) word = magnitude digits >>= (λ n. Some (neg_ℤ (pos n)))
+signed None word = magnitude word >>= (λ n. Some (pos n))
 
 abbrev pub number : Word → Option ℤ
-number word =
-    if bytes_eq word (codes "0") then Some (pos 0)
-    else (if begins 45 word then unsigned (λ n. neg_ℤ (pos n)) (drop 1 word) else unsigned pos word)
+number word = if bytes_eq word (codes "0") then Some (pos 0) else signed (strip_byte 45 word) word
 
 -- a number, or a string of which one leading `'` (39) is dropped
 abbrev pub number_or_text : Option ℤ → Word → Primitive
 number_or_text (Some n) word = Number n
-number_or_text None word = Text (units_of (if begins 39 word then drop 1 word else word))
+number_or_text None word = Text (units_of (unwrap_or (strip_byte 39 word) word))
 
 abbrev pub value : Word → Primitive
 value word =
@@ -92,28 +93,34 @@ value word =
     else number_or_text (number word) word)
 
 -- the value of an answer that begins with `!` (33) is thrown, and the rest is read as a value
-abbrev pub answer : Word → Item
-answer word =
-    if begins 33 word then record { name = []; value = value (drop 1 word); threw = true }
-    else record { name = []; value = value word; threw = false }
+abbrev pub answer : Option Word → Word → Item
+answer (Some thrown) given = record { name = []; value = value thrown; threw = true }
+answer None given = record { name = []; value = value given; threw = false }
 
 -- an input of the name before the first `=`, an answer where that name is empty
+abbrev pub named_item : Word → Word → Item
+named_item [] given = answer (strip_byte 33 given) given
+named_item (b ∷ name) given = record { name = units_of (b ∷ name); value = value given; threw = false }
+
+-- the parts before and behind the first `=`; a word without one is refused
+abbrev pub item_of : Word × Option Word → Option Item
+item_of parts = parts.1 >>= (λ given. Some (named_item parts.0 given))
+
 abbrev pub item : Word → Option Item
-item word = do
-  given ← behind_equals word
-  Some (if length (before_equals word) == 0 then answer given
-      else record { name = units_of (before_equals word); value = value given; threw = false })
+item word = item_of (name_and_value word)
 
 abbrev pub is_named : List ℕ → Item → Bool
-is_named name item = nat_le 1 (length name) && bytes_eq item.name name
+is_named name item = nat_le 1 (length name) && pointwise nat_eq item.name name
 
--- items whose inputs have names of their own
+-- the items of the words behind those that are done; an input whose name was given before is refused
+abbrev pub items_behind : List Item → List Word → Option (List Item)
+items_behind done [] = Some done
+items_behind done (word ∷ rest) = do
+  next ← item word
+  if list_any (is_named next.name) done then None else items_behind (done ++ next ∷ []) rest
+
 abbrev pub items : List Word → Option (List Item)
-items [] = Some []
-items (word ∷ rest) = do
-  first ← item word
-  others ← items rest
-  if list_any (is_named first.name) others then None else Some (first ∷ others)
+items words = items_behind [] words
 
 -- ---- commands
 

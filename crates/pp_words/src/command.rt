@@ -1,4 +1,5 @@
 use js_value::{NoMemory, Primitive, Seq, Text};
+use std::alloc::AllocError;
 
 /// What an item gives: an input under its name, or the next answer of the host under the empty name.
 #[derive(Debug, Drop)]
@@ -29,7 +30,23 @@ pub enum WordsRefused {
 }
 
 impl From<NoMemory> for WordsRefused {
+    ghost use Rattle.std.specs.Prelude.{◌≡◌};
+    ghost use Rattle.pp_words.specs.declared.command.WordsRefused.TheVariants as refused;
+
+    ghost from_gives = { λ _ r. r ≡ refused.NoMemory };
+
     fn from(_: NoMemory) -> WordsRefused {
+        WordsRefused::NoMemory
+    }
+}
+
+impl From<AllocError> for WordsRefused {
+    ghost use Rattle.std.specs.Prelude.{◌≡◌};
+    ghost use Rattle.pp_words.specs.declared.command.WordsRefused.TheVariants as refused;
+
+    ghost from_gives = { λ _ r. r ≡ refused.NoMemory };
+
+    fn from(_: AllocError) -> WordsRefused {
         WordsRefused::NoMemory
     }
 }

@@ -6,8 +6,13 @@ ghost use Rattle.js_value.specs.declared.primitive.Primitive.TheVariants as valu
 ghost use Rattle.pp_words.specs.Words.{command, item};
 
 mod command;
+mod item;
+mod items;
+mod line;
+mod reading;
 
 pub use command::{Command, Item, Items, WordsRefused};
+pub use reading::words;
 
 /// Cases of the form of the words, worked out by hand.
 pub fn words_cases()
