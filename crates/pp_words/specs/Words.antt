@@ -1,10 +1,10 @@
 -- What the words of a command line ask for. A word is a list of bytes of UTF-8.
-use Rattle.std.specs.Prelude.{ℕ, ℤ, ◌++◌, unwrap_or, nat_eq, pos, neg_ℤ, ◌==◌, ◌&&◌, Bool, true, false, not, nat_le, List, [], ◌∷◌, Option, Some, None, if◌then◌else◌, length, slice_index, codes}
+use Rattle.std.specs.Prelude.{ℕ, ℤ, ◌++◌, unwrap_or, nat_eq, is_some, pos, neg_ℤ, ◌==◌, ◌&&◌, Bool, true, false, not, nat_le, List, [], ◌∷◌, Option, Some, None, if◌then◌else◌, length, slice_index, codes}
 use Rattle.std.specs.List.{before_first, after_first, list_any}
 use Rattle.std.specs.Str.{bytes_eq}
 use Rattle.js_value.specs.Conversions.{are_digits, digits_value}
 use Rattle.std.specs.Cmp.Lexicographic.{pointwise}
-use Rattle.clap.specs.Lexer.{strip_byte, name_and_value}
+use Rattle.clap.specs.Lexer.{strip_byte, name_and_value, long_of}
 use Rattle.js_value.specs.Numbers.{greatest_magnitude}
 use Rattle.js_value.specs.Texts.{units_of}
 use Rattle.js_value.specs.declared.primitive.Primitive.{Primitive}
@@ -23,13 +23,6 @@ abbrev pub ◌>>=◌ : {A B : Type 0} → Option A → (A → Option B) → Opti
 ◌>>=◌ None next = None
 ◌>>=◌ (Some a) next = next a
 
--- 61 is `=`
-abbrev pub is_equals : ℕ → Bool
-is_equals b = b == 61
-
-abbrev pub before_equals : Word → Word
-before_equals word = before_first is_equals word
-
 abbrev pub begins : ℕ → Word → Bool
 begins byte word = nat_le 1 (length word) && slice_index word 0 == byte
 
@@ -42,6 +35,16 @@ with_value value divided = Some (value ∷ divided.0, divided.1)
 abbrev pub with_plain : Word → List Word × List Word → Option (List Word × List Word)
 with_plain word divided = Some (divided.0, word ∷ divided.1)
 
+-- The value of the option stands behind `=`, or is the next word.
+abbrev pub option_given : Option Word → Option (List Word × List Word) → Option (List Word × List Word) → Option (List Word × List Word)
+option_given (Some value) here in_next = here >>= with_value value
+option_given None here in_next = in_next
+
+-- another option than `--steps` is refused
+abbrev pub option_of : Option (Word × Option Word) → Option (List Word × List Word) → Option (List Word × List Word) → Option (List Word × List Word)
+option_of None here in_next = None
+option_of (Some flag) here in_next = if bytes_eq (codes "steps") flag.0 then option_given flag.1 here in_next else None
+
 -- The values of `--steps` and the plain words; `true` where the word before was `--steps`, so that the next is its value. 45 is `-`.
 abbrev pub divided : Bool → List Word → Option (List Word × List Word)
 divided true [] = None
@@ -49,10 +52,8 @@ divided true (value ∷ rest) = divided false rest >>= with_value value
 divided false [] = Some ([], [])
 divided false (word ∷ rest) =
     if bytes_eq word (codes "--") then Some ([], rest)
-    else (if bytes_eq word (codes "--steps") then divided true rest
-    else (if bytes_eq (before_equals word) (codes "--steps") then divided false rest >>= with_value (after_first is_equals word)
-    else (if begins 45 word then None
-    else divided false rest >>= with_plain word)))
+    else (if not (is_some (strip_byte 45 word)) then divided false rest >>= with_plain word
+    else option_of (long_of word) (divided false rest) (divided true rest))
 
 -- one to nine digits, from 1 to 100,000,000
 abbrev pub budget : Word → Option ℕ
@@ -137,9 +138,12 @@ named n (name ∷ words) =
     if bytes_eq name (codes "eval") then eval n words
     else (if bytes_eq name (codes "run") then run n words else None)
 
--- what the words ask for, or nothing where they have another form
-abbrev pub command : List Word → Option Command
-command words = do
-  parts ← divided false words
+-- what the values of the option and the plain words ask for
+abbrev pub asked : List Word × List Word → Option Command
+asked parts = do
   n ← steps parts.0
   named n parts.1
+
+-- what the words ask for, or nothing where they have another form
+abbrev pub command : List Word → Option Command
+command words = divided false words >>= asked

@@ -1,8 +1,3 @@
-use js_value::{NoMemory, Primitive, Text};
-use std::alloc::Global;
-
-use crate::{Item, WordsRefused};
-
 ghost use Rattle.std.specs.Prelude.{[], ◌≡◌, ◌≤◌, ◌<◌, ◌&&◌, pos, min, not, true, length, None, Some, option_map, IfOk, IfErr, IfSome, IfNone};
 ghost use Rattle.std.specs.List.{list_all};
 ghost use Rattle.std.specs.Char.{is_ascii_digit};
@@ -10,6 +5,10 @@ ghost use Rattle.js_value.specs.Conversions.{digits_value, are_digits};
 ghost use Rattle.clap.specs.Lexer.{strip_byte, name_and_value};
 ghost use Rattle.pp_words.specs.Words as spec;
 ghost use Rattle.pp_words.specs.declared.command.WordsRefused.TheVariants.{Usage};
+
+use crate::{Item, WordsRefused};
+use js_value::{NoMemory, Primitive, Text};
+use std::alloc::Global;
 
 /// The greatest magnitude of a number of the profile.
 const GREATEST: u64 = 9_007_199_254_740_991;

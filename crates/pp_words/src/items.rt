@@ -1,13 +1,12 @@
-use js_value::Text;
-use std::alloc::Global;
-
-use crate::item::item;
-use crate::{Item, Items, WordsRefused};
-
 ghost use Rattle.std.specs.Prelude.{◌≡◌, map, Some, None, IfOk, IfErr};
 ghost use Rattle.std.specs.List.{list_any};
 ghost use Rattle.pp_words.specs.Words as spec;
 ghost use Rattle.pp_words.specs.declared.command.WordsRefused.TheVariants.{Usage};
+
+use crate::item::item;
+use crate::{Item, Items, WordsRefused};
+use js_value::Text;
+use std::alloc::Global;
 
 fn is_named(name: &Text, item: &Item) -> bool
     ensures { result ≡ spec.is_named name.now item.now }

@@ -1,15 +1,14 @@
-use clap::error::ErrorKind;
-use std::alloc::Global;
+ghost use Rattle.std.specs.Prelude.{◌≡◌, map, string_bytes, Some, None, [], false, IfOk, IfErr};
+ghost use Rattle.pp_words.specs.Words as spec;
+ghost use Rattle.pp_words.specs.Line.{form};
+ghost use Rattle.pp_words.specs.declared.command.WordsRefused.TheVariants.{Usage};
 
 use crate::item::{all_digits, capped};
 use crate::items::read_items;
 use crate::line::{parse, values};
 use crate::{Command, WordsRefused};
-
-ghost use Rattle.std.specs.Prelude.{◌≡◌, map, string_bytes, Some, None, [], false, IfOk, IfErr};
-ghost use Rattle.pp_words.specs.Words as spec;
-ghost use Rattle.pp_words.specs.Line.{form};
-ghost use Rattle.pp_words.specs.declared.command.WordsRefused.TheVariants.{Usage};
+use clap::error::ErrorKind;
+use std::alloc::Global;
 
 fn budget(word: &[u8]) -> Option<u64>
     ensures { result ≡ spec.budget word.now }
@@ -65,12 +64,23 @@ fn divide<'a>(
     }
 }
 
+/// What the values of the option and the plain words ask for.
+fn asked(alloc: Global, values: &[&str], plain: &[&str]) -> Result<Command, WordsRefused>
+    ensures ok { IfOk result (λ c. spec.asked (map (λ v. v.now) values.now, map (λ w. w.now) plain.now) ≡ Some c) }
+    ensures err { IfErr result (λ e. e ≡ Usage → spec.asked (map (λ v. v.now) values.now, map (λ w. w.now) plain.now) ≡ None) }
+{
+    match steps(values) {
+        Some(steps) => named(alloc, steps, plain),
+        None => Err(WordsRefused::Usage),
+    }
+}
+
 /// What the words behind the program's name ask for. They are refused as usage exactly where they have another form.
+#[tactic(auto, using(crate::proofs::Agreement::of_no_parts))]
 pub fn words(alloc: Global, words: &[String]) -> Result<Command, WordsRefused>
     ensures ok { IfOk result (λ c. spec.command (map string_bytes words.now) ≡ Some c) }
     ensures err { IfErr result (λ e. e ≡ Usage → spec.command (map string_bytes words.now) ≡ None) }
 {
     let (values, plain) = divide(alloc, words)?;
-    let steps = steps(values.as_slice()).ok_or(WordsRefused::Usage)?;
-    named(alloc, steps, plain.as_slice())
+    asked(alloc, values.as_slice(), plain.as_slice())
 }
