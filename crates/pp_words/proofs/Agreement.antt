@@ -7,7 +7,7 @@ use Rattle.clap.specs.Lexer.{name_and_value}
 use Rattle.pp_words.specs.declared.command.Item.{Item}
 use Rattle.pp_words.specs.declared.command.Command.{Command}
 use Rattle.pp_words.specs.declared.command.Command.TheVariants.{Run}
-use Rattle.pp_words.specs.Words.{Word, ◌>>=◌, with_value, with_plain, option_given, divided, steps, items_behind, item, is_named, named, eval, run, budget, option_of, asked, command}
+use Rattle.pp_words.specs.Words.{Word, ◌>>=◌, with_value, with_plain, option_given, divided, steps, items_behind, item, is_named, named, eval, run, budget, asked, command}
 use Rattle.pp_words.specs.Line.{Kind, plain, dashes, alone, with, other, kind_of, kind_of_value, leads, form}
 
 abbrev Parts : Type 0

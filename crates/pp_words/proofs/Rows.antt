@@ -1,8 +1,8 @@
 -- What one more value does to the rows.
-use Rattle.std.proofs.Common.{◌≡◌, ℕ, Bool, true, false, List, [], ◌∷◌, ◌++◌, Option, None, Some, codes, refl, ap, sym, ◌∙◌, subst, find, unwrap_or, cond}
+use Rattle.std.proofs.Common.{◌≡◌, true, false, List, [], ◌∷◌, ◌++◌, Option, refl, ap, ◌∙◌, unwrap_or}
 use Rattle.std.specs.Str.{bytes_eq}
 use Rattle.std.proofs.lemmas.Slice.Eq.{bytes_eq-Decides}
-use Rattle.clap.specs.Walk.{Row, Text, at_row, more_values, with_values, all_of, used}
+use Rattle.clap.specs.Walk.{Row, Text, with_values}
 use Rattle.std.specs.Option.{option_map}
 use Rattle.clap.specs.Matches.{raw_values, matched_of}
 use Rattle.clap.specs.Walk.{rows_of}

@@ -1,11 +1,10 @@
 -- A text has a first character.
-use Rattle.std.proofs.Common.{◌≡◌, ◌==◌, ◌<◌, ℕ, Bool, true, false, List, [], ◌∷◌, Option, None, Some, refl, ap, sym, ◌∙◌, slice_get, map, string_bytes, length, arith}
+use Rattle.std.proofs.Common.{◌≡◌, ◌==◌, ◌<◌, ℕ, true, false, List, [], ◌∷◌, Some, refl, ap, sym, slice_get, map, string_bytes, length, arith}
 use Rattle.std.specs.Prelude.{String}
 use Rattle.std.specs.Str.{chars, IsUtf8}
 use Rattle.std.proofs.lemmas.Str.{encodes-chars, IsUtf8-drop, IsCharBoundary-after_ascii, IsUtf8-string_bytes}
 use Rattle.std.proofs.lemmas.Bool.Decides.{Decides-eqb}
 use Rattle.std.proofs.lemmas.Option.{same_Some}
-use Rattle.clap.specs.Lexer.{short_of}
 use Rattle.clap.specs.Walk.{Text}
 use Rattle.pp_words.proofs.Whole.{IsSpelled, AllSpelled}
 

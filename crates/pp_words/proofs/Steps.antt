@@ -1,9 +1,9 @@
 -- One word of the walk.
-use Rattle.std.proofs.Common.{◌≡◌, ℕ, Bool, true, false, List, [], ◌∷◌, ◌++◌, Option, None, Some, codes, refl, ap, sym, ◌∙◌, is_some, ◌&&◌, ◌≢◌, slice_get}
+use Rattle.std.proofs.Common.{◌≡◌, ℕ, Bool, true, false, List, [], ◌∷◌, Option, None, Some, codes, refl, ◌&&◌, ◌≢◌, slice_get}
 use Rattle.std.specs.Str.{bytes_eq, chars}
 use Rattle.clap.specs.Lexer.{long_of, short_of}
-use Rattle.clap.specs.Kinds.{Kinds, or_else}
-use Rattle.clap.specs.Walk.{Rule, Text, Walk, Waiting, Held, Row, idle, positional, option, walked, settled_rows, used, bundle_met}
+use Rattle.clap.specs.Kinds.{Kinds}
+use Rattle.clap.specs.Walk.{Rule, Text, Walk, Waiting, Row, idle, positional, option, walked, settled_rows, used}
 use Rattle.clap.specs.Faults.{turn_fault, settle_fault, flags_fault}
 use Rattle.clap.specs.Simple.{Shape, built, with_index, filled}
 use Rattle.pp_words.specs.Line.{line, steps_rule, words_rule}

@@ -1,13 +1,13 @@
 -- The whole walk.
-use Rattle.std.proofs.Common.{◌≡◌, ℕ, Bool, true, false, List, [], ◌∷◌, ◌++◌, Option, None, Some, codes, refl, ap, sym, ◌∙◌, subst, is_some, ◌&&◌, ◌||◌, ◌≢◌, slice_get, append_assoc, append-nil, cond}
+use Rattle.std.proofs.Common.{◌≡◌, ℕ, Bool, true, false, List, [], ◌∷◌, ◌++◌, Option, None, Some, codes, refl, ap, sym, ◌∙◌, subst, is_some, ◌||◌, ◌≢◌, slice_get, append_assoc, append-nil, cond}
 use Rattle.std.specs.List.{fold}
 use Rattle.std.specs.Str.{bytes_eq, chars}
 use Rattle.clap.specs.Lexer.{long_of, short_of}
 use Rattle.clap.specs.Kinds.{Kinds, or_else}
-use Rattle.clap.specs.Walk.{Rule, Text, Walk, Waiting, Held, Row, idle, positional, option, walked, settled_rows, used, nothing_held, with_default, has_row}
+use Rattle.clap.specs.Walk.{Text, Walk, Waiting, Row, idle, positional, option, walked, settled_rows, used, nothing_held, with_default, has_row}
 use Rattle.clap.specs.Faults.{turn_fault, settle_fault, walk_fault, defaults_fault, level_fault, entered_fault, fault_of}
 use Rattle.clap.specs.Simple.{entered, built, matches_of}
-use Rattle.pp_words.specs.Line.{line, Kind, plain, dashes, alone, with, other, kind_of, kind_of_flag, kind_of_value, form, leads, values_at, Shows}
+use Rattle.pp_words.specs.Line.{line, Kind, plain, dashes, alone, with, other, kind_of, kind_of_flag, kind_of_value, form, leads, Shows}
 use Rattle.pp_words.proofs.Rows.{same_id, other_id}
 use Rattle.pp_words.proofs.Steps.{top, at, settles, steps_built, words_built, IsFree, at_idle, at_positional, wanting, dashes_walked, dashes_fault, with_fault, with_walked, alone_fault, alone_walked, long_fault, short_fault, plain_fault, plain_walked, trailing_fault, trailing_walked, given_walked, given_fault, wanting_dashes, wanting_long}
 

@@ -1,6 +1,6 @@
 -- What the words of a command line ask for. A word is a list of bytes of UTF-8.
 use Rattle.std.specs.Prelude.{ℕ, ℤ, ◌++◌, unwrap_or, nat_eq, is_some, pos, neg_ℤ, ◌==◌, ◌&&◌, Bool, true, false, not, nat_le, List, [], ◌∷◌, Option, Some, None, if◌then◌else◌, length, slice_index, codes}
-use Rattle.std.specs.List.{before_first, after_first, list_any}
+use Rattle.std.specs.List.{list_any}
 use Rattle.std.specs.Str.{bytes_eq}
 use Rattle.js_value.specs.Conversions.{are_digits, digits_value}
 use Rattle.std.specs.Cmp.Lexicographic.{pointwise}

@@ -1,4 +1,4 @@
-use Rattle.std.proofs.Common.{◌≡◌, ◌<◌, ◌++◌, refl, ap, codes, List, [], ◌∷◌, ℕ, Some, false, arith}
+use Rattle.std.proofs.Common.{◌≡◌, ◌<◌, ◌++◌, refl, ap, List, [], ◌∷◌, ℕ, Some, false, arith}
 use Rattle.std.specs.List.{flat_map}
 use Rattle.std.specs.Char.Escape.{encode_utf16}
 use Rattle.std.specs.Str.{IsAscii}
@@ -6,7 +6,6 @@ use Rattle.std.proofs.lemmas.Grind.{common_steps}
 use Rattle.std.proofs.lemmas.Str.{chars-IsAscii}
 use Rattle.js_value.specs.Texts.{units_of}
 use Rattle.js_value.specs.declared.primitive.Primitive.TheVariants.{Text}
-use Rattle.pp_words.specs.declared.command.Item.{Item}
 use Rattle.pp_words.proofs.words_cases.Goals as goal
 
 one_is_ascii : (c : ℕ) → c < 128 → IsAscii (c ∷ [])

@@ -1,4 +1,4 @@
-use Rattle.std.proofs.Common.{Some, None, arith, ap, sym, ◌∙◌, Option, List, ℕ, IfSome, IfNone, ◌≡◌, ◌∷◌, ◌++◌, Bor}
+use Rattle.std.proofs.Common.{Some, None, arith, ap, ◌∙◌, Option, List, ℕ, IfSome, IfNone, ◌≡◌, ◌∷◌, ◌++◌, Bor}
 use Rattle.std.proofs.lemmas.Str.Pattern.{split_parts}
 use Rattle.std.specs.Prelude.{MatchOption}
 use Rattle.clap.specs.Lexer.{name_and_value}

@@ -1,8 +1,6 @@
-use Rattle.std.proofs.Common.{rules, ap, ap₂, refl, codes, true, map, List, Some, [], ◌∷◌, ◌≡◌, ◌∙◌, subst, sym, inl, inr, false, None, Option, ◌⊎◌, IsSomeAnd, IfOk, string_bytes, ℕ, Global}
-use Rattle.std.proofs.lemmas.Result.{IfErr-weaker, IfOk-weaker, MatchResult-weaker}
-use Rattle.std.specs.Prelude.{MatchResult}
-use Rattle.clap.specs.Walk.{Row, Rule, Text, rule_of, rows_of}
-use Rattle.clap.specs.Matches.{found_of}
+use Rattle.std.proofs.Common.{rules, ap, ap₂, refl, codes, true, map, List, Some, [], ◌≡◌, ◌∙◌, subst, sym, inl, inr, false, None, Option, ◌⊎◌, IsSomeAnd, IfOk, string_bytes, ℕ, Global}
+use Rattle.std.proofs.lemmas.Result.{IfOk-weaker, MatchResult-weaker}
+use Rattle.clap.specs.Walk.{Row, Text, rule_of}
 use Rattle.clap.specs.Kinds.{Kinds, HasKind, FailsBy}
 use Rattle.clap.specs.Values.{kind_of}
 use Rattle.clap.specs.declared.error.Error.{Error}
@@ -11,7 +9,7 @@ use Rattle.clap.proofs.WalkLemmas.{IfOk-both}
 use Rattle.pp_words.proofs.Whole.{whole, Agrees}
 use Rattle.pp_words.proofs.Spelled.{all_spelled}
 use Rattle.clap.specs.Faults.{fault_of, is_simple_and_free}
-use Rattle.clap.specs.Simple.{App, Shape, app_of, app_of_fields, is_simple, new_app, new_rule, on_top, with_rule, matches_of}
+use Rattle.clap.specs.Simple.{App, Shape, app_of, app_of_fields, is_simple, new_app, on_top, with_rule, matches_of}
 use Rattle.pp_words.specs.Line.{line, steps_rule, words_rule, form, Shows}
 use Rattle.pp_words.proofs.line.parse.Goals as goal
 

@@ -1,4 +1,4 @@
-use Rattle.std.proofs.Common.{◌≡◌, ◌∙◌, sym, ap, List, ℕ, map, string_bytes, Some, None, Global, false, []}
+use Rattle.std.proofs.Common.{◌≡◌, ◌∙◌, List, map, string_bytes, Some, Global, false, []}
 use Rattle.std.proofs.lemmas.Result.{IfErr-weaker, IfOk-weaker}
 use Rattle.pp_words.specs.Words.{Word, command, asked}
 use Rattle.pp_words.specs.Line.{form}
