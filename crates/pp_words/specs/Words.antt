@@ -35,17 +35,19 @@ with_value value divided = Some (value ∷ divided.0, divided.1)
 abbrev pub with_plain : Word → List Word × List Word → Option (List Word × List Word)
 with_plain word divided = Some (divided.0, word ∷ divided.1)
 
--- The value of the option stands behind `=`, or is the next word.
+-- The value of the option stands behind `=`, or is the next word. `here` is what the words behind the option give where the first of
+-- them isn't its value, `in_next` where it is.
 abbrev pub option_given : Option Word → Option (List Word × List Word) → Option (List Word × List Word) → Option (List Word × List Word)
 option_given (Some value) here in_next = here >>= with_value value
 option_given None here in_next = in_next
 
--- another option than `--steps` is refused
+-- `long_of` gives the name of `--name` or `--name=value`, and the value; another option than `--steps` is refused
 abbrev pub option_of : Option (Word × Option Word) → Option (List Word × List Word) → Option (List Word × List Word) → Option (List Word × List Word)
 option_of None here in_next = None
 option_of (Some flag) here in_next = if bytes_eq (codes "steps") flag.0 then option_given flag.1 here in_next else None
 
--- The values of `--steps` and the plain words; `true` where the word before was `--steps`, so that the next is its value. 45 is `-`.
+-- The values of `--steps` and the plain words; `true` where the word before was `--steps`, so that the next is its value. `strip_byte` gives
+-- what follows a first byte; 45 is `-`.
 abbrev pub divided : Bool → List Word → Option (List Word × List Word)
 divided true [] = None
 divided true (value ∷ rest) = divided false rest >>= with_value value
