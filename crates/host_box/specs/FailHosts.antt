@@ -1,6 +1,5 @@
 -- What contracts see of a host whose calls fail at given numbers.
 use Rattle.std.specs.Prelude.{◌≢◌, ℕ, List}
-use Rattle.pp_io.specs.InMemory.{FailsNext}
 use Rattle.host_box.specs.Hosts.{IsFirst}
 use Rattle.host_box.specs.declared.answer.Answer.{Answer}
 use Rattle.host_box.specs.declared.answer.Reply.{Reply}

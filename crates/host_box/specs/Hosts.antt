@@ -1,5 +1,5 @@
 -- What a call of a host does to its answers left and to the numbers of its calls that fail.
-use Rattle.std.specs.Prelude.{◌≡◌, ℕ, ◌+◌, ◌-◌, ◌==◌, nat_le, ℤ, pos, ◌+ℤ◌, int_le, Bool, true, false, if◌then◌else◌, List, [], ◌∷◌, ◌++◌, None, Some, ◌⊎◌, ⊤}
+use Rattle.std.specs.Prelude.{◌≡◌, ℕ, ◌-◌, ◌==◌, nat_le, ℤ, pos, ◌+ℤ◌, int_le, true, false, if◌then◌else◌, List, [], ◌∷◌, ◌++◌, None, Some, ◌⊎◌, ⊤}
 use Rattle.std.specs.declared.option.Option.{Option}
 use Rattle.std.specs.Option.{option_map}
 use Rattle.js_value.specs.Numbers.{greatest}

@@ -1,4 +1,4 @@
-ghost use Rattle.std.specs.Prelude.{◌≡◌, ◌≤◌, ◌↔◌, [], Some, IsTrue, Contains};
+ghost use Rattle.std.specs.Prelude.{◌≡◌, ◌≢◌, ◌+◌, ◌-◌, ◌^◌, ◌≤◌, ◌↔◌, [], Some, min, IsTrue, Contains};
 ghost use Rattle.std.specs.Option.{option_map};
 ghost use Rattle.host_box.specs.FailHosts.{FailReplies};
 ghost use Rattle.host_box.specs.Hosts.{numbers_later, Replies, numbers_after_call, CallHasCause};
@@ -73,6 +73,8 @@ impl Host for FailHost {
         ensures failing { Some (numbers_later self.new.calls self.new.fail) ≡
             option_map numbers_after_call (Some (numbers_later self.old.calls self.old.fail)) }
         ensures first { FailReplies self.old result }
+        ensures counted { result ≡ Reply.Failed → self.new.faults ≡ min (self.old.faults + 1) (2 ^ 64 - 1) }
+        ensures uncounted { result ≢ Reply.Failed → self.new.faults ≡ self.old.faults }
     {
         if count_call(&mut self.calls, &self.fail) {
             self.faults = self.faults.saturating_add(1);
