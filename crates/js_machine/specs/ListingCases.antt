@@ -20,7 +20,7 @@ rows h ending = listing_by (λ f names. (f, names)) (λ f. []) h ending
 
 -- an object with other properties
 abbrev pub changed : ObjNo → (Properties → Properties) → Heap → Heap
-changed o f h = or_value h (option_map (λ (state : ObjectState). set_object o (record state { properties = f state.properties }) h) (object_at h o))
+changed o f h = unwrap_or (option_map (λ (state : ObjectState). set_object o (record state { properties = f state.properties }) h) (object_at h o)) h
 
 abbrev pub added : ObjNo → Key → Property → Heap → Heap
 added o key p h = changed o (λ ps. ps ++ (key, p) ∷ []) h

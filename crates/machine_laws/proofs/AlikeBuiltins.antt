@@ -138,7 +138,7 @@ module _ (w : TreeRelation) where
   unfolding B.property_is_enumerable
   property_is_enumerable_too = record {
     at = λ at calls this arguments. bind w (to_key_too w at (argument arguments 0)) (λ key. bind w (to_object_too w at this) (λ o.
-        bind w (get_own_property_too w at calls o key) (λ p. gives w (truth (or_value false (option_map is_enumerable p))))));
+        bind w (get_own_property_too w at calls o key) (λ p. gives w (truth (unwrap_or (option_map is_enumerable p) false)))));
   }
 
   pub get_prototype_of_too : RuleAlike w B.get_prototype_of

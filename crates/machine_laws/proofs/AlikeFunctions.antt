@@ -33,7 +33,7 @@ module _ (w : TreeRelation) where
   this_value_too at (Prim primitive.Null) = gives w (Object global)
   this_value_too at v = left_at w PrimitiveThis at
 
-  bound_too : (v : Value) (c : Option CellNo) → Alike w (or_value (give tt) (option_and_then (λ c. Some (change (set_cell c v))) c)) (or_value (give tt) (option_and_then (λ c. Some (change (set_cell c v))) c))
+  bound_too : (v : Value) (c : Option CellNo) → Alike w (unwrap_or (option_and_then (λ c. Some (change (set_cell c v))) c) (give tt)) (unwrap_or (option_and_then (λ c. Some (change (set_cell c v))) c) (give tt))
   bound_too v None = gives w tt
   bound_too v (Some c) = changes w (set_cell c v)
 
@@ -62,8 +62,8 @@ module _ (w : TreeRelation) {stmt other : Context → Stmt → Run Flow} (h : (c
   function_call_too f = bind w (this_value_too w at this) (λ this. bind w (enter_function_too w functions f scope arguments) (λ s.
       bind w (statements_too w (h (record { scope = Some s; this = this })) f.body) (λ flow. gives w (F.returned flow))))
 
-  found_too : (f : Option Func) → Alike w (or_value (throw_error TypeError) (option_and_then (λ (g : Func). Some (F.function_call functions stmt at scope this arguments g)) f))
-      (or_value (throw_error TypeError) (option_and_then (λ (g : Func). Some (F.function_call functions other at scope this arguments g)) f))
+  found_too : (f : Option Func) → Alike w (unwrap_or (option_and_then (λ (g : Func). Some (F.function_call functions stmt at scope this arguments g)) f) (throw_error TypeError))
+      (unwrap_or (option_and_then (λ (g : Func). Some (F.function_call functions other at scope this arguments g)) f) (throw_error TypeError))
   found_too None = throw_error_too w TypeError
   found_too (Some f) = function_call_too f
 

@@ -17,46 +17,44 @@ use Rattle.plain_heap.proofs.Making.{parts, right_parts, right_whole, still, kep
 
 -- ---- an object in the place of another
 
--- an object at this place, of the same class and with the same prototype
+-- an object at this place, of the same class and with the same prototype and depth
 record Now (xs : List ObjectState) (j : ℕ) (state : ObjectState) : Type 0 where
   now : ObjectState
   is : slice_get xs j ≡ Some now
   class : now.class ≡ state.class
   prototype : now.prototype ≡ state.prototype
+  depth : now.depth ≡ state.depth
 
-now_set : (xs : List ObjectState) (i j : ℕ) (after old state : ObjectState) → slice_get xs i ≡ Some old → after.class ≡ old.class → after.prototype ≡ old.prototype
+now_set : (xs : List ObjectState) (i j : ℕ) (after old state : ObjectState) → slice_get xs i ≡ Some old → after.class ≡ old.class → after.prototype ≡ old.prototype → after.depth ≡ old.depth
     → slice_get xs j ≡ Some state → Now (slice_set xs i after) j state
-now_set [] i j after old state was class prototype at = grind (arith, at)
-now_set (x ∷ xs) zero zero after old state was class prototype at =
+now_set [] i j after old state was class prototype depth at = grind (arith, at)
+now_set (x ∷ xs) zero zero after old state was class prototype depth at =
     let same = sym (some_is x old was) ∙ some_is x state at in
-    record { now = after; is = refl; class = class ∙ ap (λ o. o.class) same; prototype = prototype ∙ ap (λ o. o.prototype) same }
-now_set (x ∷ xs) zero (suc j) after old state was class prototype at = record { now = state; is = at; class = refl; prototype = refl }
-now_set (x ∷ xs) (suc i) zero after old state was class prototype at = record { now = state; is = at; class = refl; prototype = refl }
-now_set (x ∷ xs) (suc i) (suc j) after old state was class prototype at =
-    let next = now_set xs i j after old state was class prototype at in
-    record { now = next.now; is = next.is; class = next.class; prototype = next.prototype }
+    record { now = after; is = refl; class = class ∙ ap (λ o. o.class) same; prototype = prototype ∙ ap (λ o. o.prototype) same; depth = depth ∙ ap (λ o. o.depth) same }
+now_set (x ∷ xs) zero (suc j) after old state was class prototype depth at = record { now = state; is = at; class = refl; prototype = refl; depth = refl }
+now_set (x ∷ xs) (suc i) zero after old state was class prototype depth at = record { now = state; is = at; class = refl; prototype = refl; depth = refl }
+now_set (x ∷ xs) (suc i) (suc j) after old state was class prototype depth at =
+    let next = now_set xs i j after old state was class prototype depth at in
+    record { now = next.now; is = next.is; class = next.class; prototype = next.prototype; depth = next.depth }
 
-set_grows : (h : Heap) (o : ObjNo) (state after : ObjectState) → object_at h o ≡ Some state → after.class ≡ state.class → after.prototype ≡ state.prototype → Grown h (set_object o after h)
-set_grows h o state after was class prototype = record {
-  objects = λ p other at. there (now_set h.objects o p after state other was class prototype at);
-  scopes = λ s scope at. at;
+set_grows : (h : Heap) (o : ObjNo) (state after : ObjectState) → object_at h o ≡ Some state → after.class ≡ state.class → after.prototype ≡ state.prototype → after.depth ≡ state.depth → Grown h (set_object o after h)
+set_grows h o state after was class prototype depth = record {
+  objects = λ p other at. there (now_set h.objects o p after state other was class prototype depth at);
   object_count = let count = length-set h.objects o after in omega arith;
   cell_count = omega arith;
-  scope_count = omega arith;
 }
   where
     there : {p : ObjNo} {other : ObjectState} → Now (slice_set h.objects o after) p other → StillThere (set_object o after h) p other
-    there now = record { now = now.now; is = now.is; class = now.class; prototype = now.prototype }
+    there now = record { now = now.now; is = now.is; class = now.class; prototype = now.prototype; depth = now.depth }
 
-pub sets_object : (h : Heap) (o : ObjNo) (state after : ObjectState) → is_valid h ≡ true → object_at h o ≡ Some state → after.class ≡ state.class → after.prototype ≡ state.prototype
+pub sets_object : (h : Heap) (o : ObjNo) (state after : ObjectState) → is_valid h ≡ true → object_at h o ≡ Some state → after.class ≡ state.class → after.prototype ≡ state.prototype → after.depth ≡ state.depth
     → is_object h after ≡ true → IsKept h (set_object o after h)
-sets_object h o state after valid was class prototype is =
-    let grown = set_grows h o state after was class prototype in
+sets_object h o state after valid was class prototype depth is =
+    let grown = set_grows h o state after was class prototype depth in
     let there = still h (set_object o after h) grown valid in
     kept h (set_object o after h) grown (record {
       objects_are = all_set (is_object (set_object o after h)) h.objects o after there.objects_are (object_kept h (set_object o after h) grown after is);
       cells_are = there.cells_are;
-      scopes_are = there.scopes_are;
     })
 
 pub right_at : (h : Heap) (o : ObjNo) (state : ObjectState) → is_valid h ≡ true → object_at h o ≡ Some state → is_object h state ≡ true
@@ -71,26 +69,27 @@ all_right h o = list_all (λ (p : Key × Property). is_property h p.1) o.propert
 pub record IsLike (h : Heap) (o after : ObjectState) : Type 0 where
   pub class : after.class ≡ o.class
   pub prototype : after.prototype ≡ o.prototype
+  pub depth : after.depth ≡ o.depth
   pub distinct : are_distinct after.properties ≡ true
   pub properties : all_right h after ≡ true
 
 pub stays_kept : (h : Heap) (o : ObjNo) (state after : ObjectState) → is_valid h ≡ true → object_at h o ≡ Some state → IsLike h state after → is_class h after state.class ≡ true → IsKept h (set_object o after h)
 stays_kept h o state after valid at like class =
     let was = right_parts h state (right_at h o state valid at) in
-    sets_object h o state after valid at like.class like.prototype (right_whole h after (rw like.prototype was.ends) like.distinct like.properties (rw like.class class))
+    sets_object h o state after valid at like.class like.prototype like.depth (right_whole h after (rw (like.prototype, like.depth) was.ends) like.distinct like.properties (rw like.class class))
 
 -- ---- preventing extensions
 
 closed_class : (h : Heap) (o : ObjectState) (class : Class) → is_class h o class ≡ true → is_class h (record o { extensible = false }) class ≡ true
 closed_class h o Plain is = is
 closed_class h o Array is = is
-closed_class h o (Function f s) is = is
+closed_class h o (Function f names strict) is = is
 closed_class h o (Builtin n) is = is
 
 pub prevents : (h : Heap) (o : ObjNo) (state : ObjectState) → is_valid h ≡ true → object_at h o ≡ Some state → IsKept h (set_object o (record state { extensible = false }) h)
 prevents h o state valid at =
     let was = right_parts h state (right_at h o state valid at) in
-    stays_kept h o state (record state { extensible = false }) valid at (record { class = refl; prototype = refl; distinct = was.distinct; properties = was.properties }) (closed_class h state state.class was.class)
+    stays_kept h o state (record state { extensible = false }) valid at (record { class = refl; prototype = refl; depth = refl; distinct = was.distinct; properties = was.properties }) (closed_class h state state.class was.class)
 
 -- ---- 8.12.7: deleting
 
@@ -180,12 +179,12 @@ without_class : (h : Heap) (key : Key) (o : ObjectState) (p : Property) (class :
     → is_class h (record o { properties = without key o.properties }) class ≡ true
 without_class h key o p Array at free is = length_is (without key o.properties) (without_length key o.properties p (is_same_text key length_key) refl at free (has_length o.properties is))
 without_class h key o p Plain at free is = is
-without_class h key o p (Function f s) at free is = is
+without_class h key o p (Function f names strict) at free is = is
 without_class h key o p (Builtin n) at free is = is
 
 -- the object stays as it was
 pub like_self : (h : Heap) (o : ObjectState) → is_object h o ≡ true → IsLike h o o
-like_self h o is = let was = right_parts h o is in record { class = refl; prototype = refl; distinct = was.distinct; properties = was.properties }
+like_self h o is = let was = right_parts h o is in record { class = refl; prototype = refl; depth = refl; distinct = was.distinct; properties = was.properties }
 
 like_without : (h : Heap) (key : Key) (o : ObjectState) → is_object h o ≡ true → IsLike h o (record o { properties = without key o.properties })
 like_without h key o is =
@@ -193,6 +192,7 @@ like_without h key o is =
     record {
       class = refl;
       prototype = refl;
+      depth = refl;
       distinct = distinct_without key o.properties was.distinct;
       properties = all_without (λ (p : Key × Property). is_property h p.1) key o.properties was.properties;
     }
@@ -201,7 +201,7 @@ deletes_by : (h : Heap) (o : ObjNo) (key : Key) (state after : ObjectState) (fou
     → delete_by key state found ≡ Some after → IsKept h (set_object o after h)
 deletes_by h o key state after None valid at own is =
     let right = right_at h o state valid at in
-    rw (sym (some_is state after is)) (sets_object h o state state valid at refl refl right)
+    rw (sym (some_is state after is)) (sets_object h o state state valid at refl refl refl right)
 deletes_by h o key state after (Some p) valid at own is =
     let right = right_at h o state valid at in
     let chose = only_some (is_configurable p) (record state { properties = without key state.properties }) after is in

@@ -1,12 +1,12 @@
 -- [[DefineOwnProperty]] keeps a heap valid (8.12.9).
 use Rattle.std.proofs.Common.{◌≡◌, refl, ap, ◌∙◌, Bool, true, false, List, [], ◌∷◌, arith, sym}
-use Rattle.std.specs.Prelude.{◌≤◌, ℕ, nat_lt, ◌&&◌, ◌||◌, not, if◌then◌else◌, Option, Some, None}
+use Rattle.std.specs.Prelude.{◌≤◌, ℕ, nat_lt, ◌&&◌, ◌||◌, not, if◌then◌else◌, Option, Some, None, unwrap_or}
 use Rattle.std.specs.Cmp.Lexicographic.{same_text}
 use Rattle.std.specs.List.{list_all}
 use Rattle.std.proofs.lemmas.Bool.{and_parts, and_from}
 use Rattle.js_value.specs.Conversions.{is_same_text, is_same_truth}
 use Rattle.plain_heap.specs.Heap.{Heap, Key, Property, Data, Accessor, DataProperty, AccessorProperty, ObjectState, is_function, put_at, lookup, data_property}
-use Rattle.plain_heap.specs.Methods.{Descriptor, Defining, Defined, Rejected, BadLength, IfSame, or_value, is_accessor, is_data, is_generic, own_property, with_property, made, changed, is_barred, if_allowed, if_data_allowed, if_accessor_allowed, if_same_value, is_same_function, define_by, define_plain, then_if, length_key, array_index}
+use Rattle.plain_heap.specs.Methods.{Descriptor, Defining, Defined, Rejected, BadLength, IfSame, is_accessor, is_data, is_generic, own_property, with_property, made, changed, is_barred, if_allowed, if_data_allowed, if_accessor_allowed, if_same_value, is_same_function, define_by, define_plain, then_if, length_key, array_index}
 use Rattle.plain_heap.specs.Values.{Value, ObjNo, undefined}
 use Rattle.plain_heap.specs.Valid.{if_some, is_value, is_property}
 use Rattle.plain_heap.specs.Laws.{is_change, outcome}
@@ -44,11 +44,11 @@ same_ends D R (Some v) old done rejected is other = λ same. ends_if D R same do
 
 data_ends : (D R : ObjectState → Type 0) (p : DataProperty) (d : Descriptor) (done rejected : Defining) → Ends D R done → Ends D R rejected → Ends D R (if_data_allowed p d done rejected)
 data_ends D R p d done rejected is other =
-    ends_if D R (p.configurable || p.writable) done (if or_value false d.writable then rejected else if_same_value d.value p.value done rejected) (λ s. is)
-    (λ s. ends_if D R (or_value false d.writable) rejected (if_same_value d.value p.value done rejected) (λ s. other) (λ s. same_ends D R d.value p.value done rejected is other))
+    ends_if D R (p.configurable || p.writable) done (if unwrap_or d.writable false then rejected else if_same_value d.value p.value done rejected) (λ s. is)
+    (λ s. ends_if D R (unwrap_or d.writable false) rejected (if_same_value d.value p.value done rejected) (λ s. other) (λ s. same_ends D R d.value p.value done rejected is other))
 
 accessor_ends : (D R : ObjectState → Type 0) (p : AccessorProperty) (d : Descriptor) (done rejected : Defining) → Ends D R done → Ends D R rejected → Ends D R (if_accessor_allowed p d done rejected)
-accessor_ends D R p d done rejected is other = ends_if D R (p.configurable || is_same_function (or_value p.set d.set) p.set && is_same_function (or_value p.get d.get) p.get) done rejected (λ s. is) (λ s. other)
+accessor_ends D R p d done rejected is other = ends_if D R (p.configurable || is_same_function (unwrap_or d.set p.set) p.set && is_same_function (unwrap_or d.get p.get) p.get) done rejected (λ s. is) (λ s. other)
 
 generic_sort : (d : Descriptor) → is_generic d ≡ true → is_accessor d ≡ false
 generic_sort d is = grind (arith, is)
@@ -75,7 +75,7 @@ by_ends D R key d o (Some p) new old stays = old_ends D R key d o p (old p refl)
 
 -- ---- properties that are right
 
-or_right : {A : Type 0} (test : A → Bool) (default : A) (a : Option A) → test default ≡ true → if_some test a ≡ true → test (or_value default a) ≡ true
+or_right : {A : Type 0} (test : A → Bool) (default : A) (a : Option A) → test default ≡ true → if_some test a ≡ true → test (unwrap_or a default) ≡ true
 or_right test default None is other = is
 or_right test default (Some a) is other = other
 
@@ -101,25 +101,25 @@ right_if h false p q is other = other
 made_right : (h : Heap) (d : Descriptor) → is_change h d ≡ true → is_property h (made d) ≡ true
 made_right h d is =
     let parts = change_parts h d is in
-    right_if h (is_accessor d) (Accessor (record { get = or_value None d.get; set = or_value None d.set; enumerable = or_value false d.enumerable; configurable = or_value false d.configurable }))
-    (data_property (or_value undefined d.value) (or_value false d.writable) (or_value false d.enumerable) (or_value false d.configurable))
-    (accessor_right h (or_value None d.get) (or_value None d.set) (or_value false d.enumerable) (or_value false d.configurable) (or_right (if_some (is_function h)) None d.get refl parts.get) (or_right (if_some (is_function h)) None d.set refl parts.set))
+    right_if h (is_accessor d) (Accessor (record { get = unwrap_or d.get None; set = unwrap_or d.set None; enumerable = unwrap_or d.enumerable false; configurable = unwrap_or d.configurable false }))
+    (data_property (unwrap_or d.value undefined) (unwrap_or d.writable false) (unwrap_or d.enumerable false) (unwrap_or d.configurable false))
+    (accessor_right h (unwrap_or d.get None) (unwrap_or d.set None) (unwrap_or d.enumerable false) (unwrap_or d.configurable false) (or_right (if_some (is_function h)) None d.get refl parts.get) (or_right (if_some (is_function h)) None d.set refl parts.set))
     (or_right (is_value h) undefined d.value refl parts.value)
 
 changed_right : (h : Heap) (p : Property) (d : Descriptor) → is_change h d ≡ true → is_property h p ≡ true → is_property h (changed p d) ≡ true
 changed_right h (Data p) d is was =
     let parts = change_parts h d is in
-    right_if h (is_accessor d) (Accessor (record { get = or_value None d.get; set = or_value None d.set; enumerable = or_value p.enumerable d.enumerable; configurable = or_value p.configurable d.configurable }))
-    (data_property (or_value p.value d.value) (or_value p.writable d.writable) (or_value p.enumerable d.enumerable) (or_value p.configurable d.configurable))
-    (accessor_right h (or_value None d.get) (or_value None d.set) (or_value p.enumerable d.enumerable) (or_value p.configurable d.configurable) (or_right (if_some (is_function h)) None d.get refl parts.get) (or_right (if_some (is_function h)) None d.set refl parts.set))
+    right_if h (is_accessor d) (Accessor (record { get = unwrap_or d.get None; set = unwrap_or d.set None; enumerable = unwrap_or d.enumerable p.enumerable; configurable = unwrap_or d.configurable p.configurable }))
+    (data_property (unwrap_or d.value p.value) (unwrap_or d.writable p.writable) (unwrap_or d.enumerable p.enumerable) (unwrap_or d.configurable p.configurable))
+    (accessor_right h (unwrap_or d.get None) (unwrap_or d.set None) (unwrap_or d.enumerable p.enumerable) (unwrap_or d.configurable p.configurable) (or_right (if_some (is_function h)) None d.get refl parts.get) (or_right (if_some (is_function h)) None d.set refl parts.set))
     (or_right (is_value h) p.value d.value was parts.value)
 changed_right h (Accessor p) d is was =
     let parts = change_parts h d is in
     let own = and_parts (if_some (is_function h) p.get) (if_some (is_function h) p.set) was in
-    right_if h (is_data d) (data_property (or_value undefined d.value) (or_value false d.writable) (or_value p.enumerable d.enumerable) (or_value p.configurable d.configurable))
-    (Accessor (record { get = or_value p.get d.get; set = or_value p.set d.set; enumerable = or_value p.enumerable d.enumerable; configurable = or_value p.configurable d.configurable }))
+    right_if h (is_data d) (data_property (unwrap_or d.value undefined) (unwrap_or d.writable false) (unwrap_or d.enumerable p.enumerable) (unwrap_or d.configurable p.configurable))
+    (Accessor (record { get = unwrap_or d.get p.get; set = unwrap_or d.set p.set; enumerable = unwrap_or d.enumerable p.enumerable; configurable = unwrap_or d.configurable p.configurable }))
     (or_right (is_value h) undefined d.value refl parts.value)
-    (accessor_right h (or_value p.get d.get) (or_value p.set d.set) (or_value p.enumerable d.enumerable) (or_value p.configurable d.configurable) (or_right (if_some (is_function h)) p.get d.get own.0 parts.get) (or_right (if_some (is_function h)) p.set d.set own.1 parts.set))
+    (accessor_right h (unwrap_or d.get p.get) (unwrap_or d.set p.set) (unwrap_or d.enumerable p.enumerable) (unwrap_or d.configurable p.configurable) (or_right (if_some (is_function h)) p.get d.get own.0 parts.get) (or_right (if_some (is_function h)) p.set d.set own.1 parts.set))
 
 -- ---- lists of properties
 
@@ -145,6 +145,7 @@ pub like_with : (h : Heap) (base o : ObjectState) (key : Key) (p : Property) →
 like_with h base o key p like is = record {
   class = like.class;
   prototype = like.prototype;
+  depth = like.depth;
   distinct = distinct_put key p o.properties like.distinct;
   properties = all_put (λ (q : Key × Property). is_property h q.1) key p o.properties is like.properties;
 }
@@ -203,7 +204,7 @@ put_element h base o q n m key p array differ le index is = record {
   below = all_put (below_length (Some m)) key p o.properties index (below_kept n m o.properties le array.below);
 }
 
-unbarred : (c e : Bool) (dc de : Option Bool) → (not c && (or_value false dc || not (is_same_truth (or_value e de) e))) ≡ false → c ≡ false → e ≡ false → (or_value c dc ≡ false) × (or_value e de ≡ false)
+unbarred : (c e : Bool) (dc de : Option Bool) → (not c && (unwrap_or dc false || not (is_same_truth (unwrap_or de e) e))) ≡ false → c ≡ false → e ≡ false → (unwrap_or dc c ≡ false) × (unwrap_or de e ≡ false)
 unbarred true e dc de is c0 e0 = grind (arith, c0)
 unbarred false true dc de is c0 e0 = grind (arith, e0)
 unbarred false false None None is c0 e0 = (refl, refl)
@@ -221,14 +222,14 @@ still_data false false is c0 = refl
 
 -- what the length becomes
 abbrev next_length : DataProperty → Descriptor → DataProperty
-next_length p d = record { value = or_value p.value d.value; writable = or_value p.writable d.writable; enumerable = or_value p.enumerable d.enumerable; configurable = or_value p.configurable d.configurable }
+next_length p d = record { value = unwrap_or d.value p.value; writable = unwrap_or d.writable p.writable; enumerable = unwrap_or d.enumerable p.enumerable; configurable = unwrap_or d.configurable p.configurable }
 
 changed_data : (p : DataProperty) (d : Descriptor) → is_accessor d ≡ false → changed (Data p) d ≡ Data (next_length p d)
 changed_data p d is = rw is refl
 
 pub length_ends : (D R : ObjectState → Type 0) (h : Heap) (base o : ObjectState) (q : DataProperty) (n m : ℕ) (d : Descriptor) → IsArrayTo h base o q n → is_change h d ≡ true
     → list_all (below_length (Some m)) o.properties ≡ true
-    → ((r : DataProperty) → r.value ≡ or_value q.value d.value → r.writable ≡ or_value q.writable d.writable → IsArrayTo h base (with_property length_key (Data r) o) r m → D (with_property length_key (Data r) o)) → R o
+    → ((r : DataProperty) → r.value ≡ unwrap_or d.value q.value → r.writable ≡ unwrap_or d.writable q.writable → IsArrayTo h base (with_property length_key (Data r) o) r m → D (with_property length_key (Data r) o)) → R o
     → Ends D R (define_plain length_key d o)
 unfolding define_plain
 length_ends D R h base o q n m d array is below done stays =
@@ -243,7 +244,7 @@ length_ends D R h base o q n m d array is below done stays =
 -- a length that is writable takes any value
 pub define_writable : (h : Heap) (base o : ObjectState) (q : DataProperty) (n : ℕ) (v : Value) (w : Option Bool) → IsArrayTo h base o q n → q.writable ≡ true
     → define_plain length_key (record { value = Some v; writable = w; get = None; set = None; enumerable = None; configurable = None }) o
-    ≡ Defined (with_property length_key (data_property v (or_value true w) false false) o)
+    ≡ Defined (with_property length_key (data_property v (unwrap_or w true) false false) o)
 unfolding define_plain
 define_writable h base o q n v w array writable = rw (array.at, array.enumerable, array.configurable, writable) refl
 

@@ -1,18 +1,18 @@
 -- What a valid heap gives is there.
 use Rattle.std.proofs.Common.{◌≡◌, refl, ap, ◌∙◌, Bool, true, false, List, arith, sym}
-use Rattle.std.specs.Prelude.{zero, suc, length, ℕ, nat_lt, if◌then◌else◌, Option, Some, None, slice_get}
-use Rattle.std.specs.List.{list_all}
+use Rattle.std.specs.Prelude.{zero, suc, length, ℕ, nat_lt, if◌then◌else◌, Option, Some, None}
 use Rattle.std.specs.Option.{option_and_then, option_map}
 use Rattle.std.proofs.lemmas.Bool.{and_parts}
-use Rattle.plain_heap.specs.Heap.{Heap, Key, Property, Data, Accessor, ObjectState, Scope, object_at, is_function, cell, cell_along, resolve, lookup, or_else}
+use Rattle.plain_heap.specs.Heap.{Heap, Key, Property, Data, Accessor, ObjectState, object_at, is_function, cell, resolve, or_else, depth_at, Environment, Function}
 use Rattle.plain_heap.specs.Methods.{own_property, property_along, get_property, Got, GotValue, CallGetter, getter, got, get, Putting, Refuse, CallSetter, setter, put_found, put_by, can_put, put}
-use Rattle.plain_heap.specs.Values.{Value, ObjNo, CellNo, ScopeNo, undefined}
-use Rattle.plain_heap.specs.Valid.{if_some, is_value, is_property, is_scope, is_cell, is_valid, scope_chain_ends}
+use Rattle.plain_heap.specs.Values.{Value, ObjNo, CellNo, undefined}
+use Rattle.plain_heap.specs.Valid.{if_some, is_value, is_property, is_cell, is_valid, are_cells, is_class}
 use Rattle.plain_heap.specs.Laws.{GivesValues}
 use Rattle.plain_heap.proofs.Grown.{one_of_all}
 use Rattle.plain_heap.proofs.Making.{parts, right_parts}
 use Rattle.plain_heap.proofs.Changing.{right_at}
 use Rattle.plain_heap.proofs.Defining.{found_right}
+use Rattle.js_value.specs.declared.place.FuncNo.{FuncNo}
 
 -- a property that is found along a chain is right
 abbrev found_is : Heap → Option (ObjNo × Property) → Bool
@@ -35,7 +35,7 @@ along_right (suc n) h key (Some o) valid = by_object (object_at h o) refl (λ p.
 
 property_right : (h : Heap) (key : Key) (o : Option ObjNo) → is_valid h ≡ true → found_is h (get_property h key o) ≡ true
 unfolding get_property
-property_right h key o valid = along_right (length h.objects) h key o valid
+property_right h key o valid = along_right (depth_at h o) h key o valid
 
 -- ---- 8.12.3
 
@@ -106,31 +106,12 @@ puts_setter h o f key v valid at = by_can_put (can_put h o key) at
 gets_cell : (h : Heap) (c : CellNo) (v : Value) → is_valid h ≡ true → cell h c ≡ Some v → is_cell h v ≡ true
 gets_cell h c v valid at = one_of_all (is_cell h) h.cells c v (parts h valid).cells_are at
 
-abbrev is_there : Heap → Option CellNo → Bool
-is_there h c = if_some (λ c. nat_lt c (length h.cells)) c
+environments_right : (h : Heap) (o : ObjNo) (state : ObjectState) (f : FuncNo) (names : Environment) (strict : Bool) → is_valid h ≡ true → object_at h o ≡ Some state → state.class ≡ Function f names strict → are_cells h names ≡ true
+environments_right h o state f names strict valid at class = ap (is_class h state) (sym class) ∙ (right_parts h state (right_at h o state valid at)).class
 
-named_right : (n : ℕ) (h : Heap) (name : List ℕ) (s : Option ScopeNo) → is_valid h ≡ true → is_there h (cell_along n h name s) ≡ true
-named_right zero h name s valid = refl
-named_right (suc n) h name s valid = by_scope s (λ p. named_right n h name p valid)
-  where
-    by_own : (scope : Scope) (own : Option CellNo) → is_scope h scope ≡ true → lookup name scope.names ≡ own → is_there h (cell_along n h name scope.outer) ≡ true → is_there h (or_else own (cell_along n h name scope.outer)) ≡ true
-    by_own scope None right is rest = rest
-    by_own scope (Some c) right is rest =
-        found_right (λ (p : List ℕ × CellNo). nat_lt p.1 (length h.cells)) (λ k m c. refl) name c scope.names
-        (and_parts (scope_chain_ends (length h.scopes) h scope.outer) (list_all (λ (p : List ℕ × CellNo). nat_lt p.1 (length h.cells)) scope.names) right).1 is
-
-    by_found : (s : ScopeNo) (found : Option Scope) → slice_get h.scopes s ≡ found → ((p : Option ScopeNo) → is_there h (cell_along n h name p) ≡ true)
-        → is_there h (option_and_then (λ (scope : Scope). or_else (lookup name scope.names) (cell_along n h name scope.outer)) found) ≡ true
-    by_found s None at rest = refl
-    by_found s (Some scope) at rest = by_own scope (lookup name scope.names) (one_of_all (is_scope h) h.scopes s scope (parts h valid).scopes_are at) refl (rest scope.outer)
-
-    by_scope : (s : Option ScopeNo) → ((p : Option ScopeNo) → is_there h (cell_along n h name p) ≡ true) → is_there h (cell_along (suc n) h name s) ≡ true
-    by_scope None rest = refl
-    by_scope (Some s) rest = by_found s (slice_get h.scopes s) refl rest
-
-resolves : (h : Heap) (s : Option ScopeNo) (name : List ℕ) (c : CellNo) → is_valid h ≡ true → resolve h s name ≡ Some c → nat_lt c (length h.cells) ≡ true
+resolves : (h : Heap) (names : Environment) (name : List ℕ) (c : CellNo) → are_cells h names ≡ true → resolve names name ≡ Some c → nat_lt c (length h.cells) ≡ true
 unfolding resolve
-resolves h s name c valid at = ap (is_there h) (sym at) ∙ named_right (length h.scopes) h name s valid
+resolves h names name c are at = found_right (λ (p : List ℕ × CellNo). nat_lt p.1 (length h.cells)) (λ k m c. refl) name c names are at
 
 pub gives_values : GivesValues
-gives_values = record { gets = gets_value; getters = gets_getter; setters = puts_setter; cells = gets_cell; names = resolves }
+gives_values = record { gets = gets_value; getters = gets_getter; setters = puts_setter; cells = gets_cell; environments = environments_right; names = resolves }

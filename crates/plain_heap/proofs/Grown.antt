@@ -1,14 +1,13 @@
 -- What was right in a heap is right in one that has grown from it.
 use Rattle.std.proofs.Common.{◌≡◌, refl, Bool, true, false, List, [], ◌∷◌, ◌++◌, arith}
-use Rattle.std.specs.Prelude.{◌≤◌, ◌<◌, zero, suc, length, ℕ, nat_lt, ◌&&◌, Option, Some, None, slice_get, slice_set}
+use Rattle.std.specs.Prelude.{◌≤◌, ◌<◌, zero, suc, length, ℕ, nat_lt, ◌&&◌, Option, Some, None, slice_get, slice_set, unwrap_or, nat_eq}
 use Rattle.std.specs.List.{list_all}
 use Rattle.std.specs.Option.{option_map}
 use Rattle.std.proofs.lemmas.Bool.{and_parts, and_from}
-use Rattle.plain_heap.specs.Heap.{Heap, Key, Property, Data, Accessor, Class, Plain, Array, Function, Builtin, ObjectState, Scope, object_at, is_function, is_function_class}
+use Rattle.plain_heap.specs.Heap.{Heap, Key, Property, Data, Accessor, Class, Plain, Array, Function, Builtin, ObjectState, object_at, is_function, is_function_class, Environment}
 use Rattle.plain_heap.specs.Heap as heap
-use Rattle.plain_heap.specs.Methods.{or_value}
-use Rattle.plain_heap.specs.Values.{ObjNo, CellNo, ScopeNo, Value, Prim, Object, Absent, Input, Answer, Unary, Binary}
-use Rattle.plain_heap.specs.Valid.{if_some, is_value, is_property, is_class, is_object, chain_ends, scope_chain_ends, is_scope, is_cell, are_distinct}
+use Rattle.plain_heap.specs.Values.{ObjNo, CellNo, Value, Prim, Object, Absent, Symbolic}
+use Rattle.plain_heap.specs.Valid.{if_some, is_value, is_property, is_class, is_object, is_cell, are_distinct, is_depth, are_cells}
 
 -- ---- lists
 
@@ -60,56 +59,34 @@ pub record StillThere (after : Heap) (o : ObjNo) (state : ObjectState) : Type 0 
   pub is : object_at after o ≡ Some now
   pub class : now.class ≡ state.class
   pub prototype : now.prototype ≡ state.prototype
+  pub depth : now.depth ≡ state.depth
 
 pub record Grown (h after : Heap) : Type 0 where
   pub objects : (o : ObjNo) (state : ObjectState) → object_at h o ≡ Some state → StillThere after o state
-  pub scopes : (s : ScopeNo) (scope : Scope) → slice_get h.scopes s ≡ Some scope → slice_get after.scopes s ≡ Some scope
   pub object_count : length h.objects ≤ length after.objects
   pub cell_count : length h.cells ≤ length after.cells
-  pub scope_count : length h.scopes ≤ length after.scopes
 
 pub less_kept : (i m n : ℕ) → m ≤ n → nat_lt i m ≡ true → nat_lt i n ≡ true
 less_kept i m n le is = grind (arith, le, is)
 
-pub chain_kept : (h after : Heap) → Grown h after → (m n : ℕ) (o : Option ObjNo) → m ≤ n → chain_ends m h o ≡ true → chain_ends n after o ≡ true
-chain_kept h after grown zero zero None le is = refl
-chain_kept h after grown zero (suc n) None le is = refl
-chain_kept h after grown (suc m) zero None le is = refl
-chain_kept h after grown (suc m) (suc n) None le is = refl
-chain_kept h after grown zero n (Some o) le is = grind (arith, is)
-chain_kept h after grown (suc m) zero (Some o) le is = grind (arith, le)
-chain_kept h after grown (suc m) (suc n) (Some o) le is = by_object (object_at h o) (λ p. chain_kept h after grown m n p (omega arith)) refl is
+pub depth_kept : (h after : Heap) → Grown h after → (depth : ℕ) (p : Option ObjNo) → is_depth h depth p ≡ true → is_depth after depth p ≡ true
+depth_kept h after grown depth None is = is
+depth_kept h after grown depth (Some p) is = by_object (object_at h p) refl is
   where
-    by_object : (found : Option ObjectState) → ((p : Option ObjNo) → chain_ends m h p ≡ true → chain_ends n after p ≡ true) → object_at h o ≡ found → or_value false (option_map (λ (state : ObjectState). chain_ends m h state.prototype) found) ≡ true → chain_ends (suc n) after (Some o) ≡ true
-    by_object None shorter at is = grind (arith, is)
-    by_object (Some state) shorter at is = let still = grown.objects o state at in rw (still.is, still.prototype) (shorter state.prototype is)
-
-pub scope_chain_kept : (h after : Heap) → Grown h after → (m n : ℕ) (s : Option ScopeNo) → m ≤ n → scope_chain_ends m h s ≡ true → scope_chain_ends n after s ≡ true
-scope_chain_kept h after grown zero zero None le is = refl
-scope_chain_kept h after grown zero (suc n) None le is = refl
-scope_chain_kept h after grown (suc m) zero None le is = refl
-scope_chain_kept h after grown (suc m) (suc n) None le is = refl
-scope_chain_kept h after grown zero n (Some s) le is = grind (arith, is)
-scope_chain_kept h after grown (suc m) zero (Some s) le is = grind (arith, le)
-scope_chain_kept h after grown (suc m) (suc n) (Some s) le is = by_scope (slice_get h.scopes s) (λ p. scope_chain_kept h after grown m n p (omega arith)) refl is
-  where
-    by_scope : (found : Option Scope) → ((p : Option ScopeNo) → scope_chain_ends m h p ≡ true → scope_chain_ends n after p ≡ true) → slice_get h.scopes s ≡ found → or_value false (option_map (λ (scope : Scope). scope_chain_ends m h scope.outer) found) ≡ true → scope_chain_ends (suc n) after (Some s) ≡ true
-    by_scope None shorter at is = grind (arith, is)
-    by_scope (Some scope) shorter at is = rw (grown.scopes s scope at) (shorter scope.outer is)
+    by_object : (found : Option ObjectState) → object_at h p ≡ found → unwrap_or (option_map (λ (state : ObjectState). nat_eq depth (suc state.depth)) found) false ≡ true → is_depth after depth (Some p) ≡ true
+    by_object None at is = grind (arith, is)
+    by_object (Some state) at is = let still = grown.objects p state at in rw (still.is, still.depth) is
 
 -- what is right of an object of any class
 abbrev pub is_right : Heap → ObjectState → Bool
-is_right h o = chain_ends (length h.objects) h o.prototype && are_distinct o.properties && list_all (λ (p : Key × Property). is_property h p.1) o.properties
+is_right h o = is_depth h o.depth o.prototype && are_distinct o.properties && list_all (λ (p : Key × Property). is_property h p.1) o.properties
 
 module _ (h after : Heap) (grown : Grown h after) where
   pub value_kept : (v : Value) → is_value h v ≡ true → is_value after v ≡ true
   value_kept (Object o) is = less_kept o (length h.objects) (length after.objects) grown.object_count is
   value_kept (Prim p) is = is
   value_kept Absent is = is
-  value_kept (Input k n) is = is
-  value_kept (Answer k n) is = is
-  value_kept (Unary op v) is = is
-  value_kept (Binary op v w) is = is
+  value_kept (Symbolic s) is = is
 
   pub function_kept : (f : ObjNo) → is_function h f ≡ true → is_function after f ≡ true
   function_kept f is = by_object (object_at h f) refl is
@@ -128,12 +105,14 @@ module _ (h after : Heap) (grown : Grown h after) where
       let parts = and_parts (if_some (is_function h) p.get) (if_some (is_function h) p.set) is in
       and_from (if_some (is_function after) p.get) (if_some (is_function after) p.set) (functions_kept p.get parts.0) (functions_kept p.set parts.1)
 
+  cells_kept : (names : Environment) → are_cells h names ≡ true → are_cells after names ≡ true
+  cells_kept names is = all_kept (λ (n : List ℕ × CellNo). nat_lt n.1 (length h.cells)) (λ (n : List ℕ × CellNo). nat_lt n.1 (length after.cells)) names (λ n. less_kept n.1 (length h.cells) (length after.cells) grown.cell_count) is
+
   pub class_kept : (o : ObjectState) (class : Class) → is_class h o class ≡ true → is_class after o class ≡ true
   class_kept o Plain is = is
   class_kept o Array is = is
   class_kept o (Builtin n) is = is
-  class_kept o (Function f None) is = refl
-  class_kept o (Function f (Some s)) is = less_kept s (length h.scopes) (length after.scopes) grown.scope_count is
+  class_kept o (Function f names strict) is = cells_kept names is
 
   pub properties_kept : (ps : List (Key × Property)) → list_all (λ (p : Key × Property). is_property h p.1) ps ≡ true → list_all (λ (p : Key × Property). is_property after p.1) ps ≡ true
   properties_kept ps is = all_kept (λ (p : Key × Property). is_property h p.1) (λ (p : Key × Property). is_property after p.1) ps (λ p. property_kept p.1) is
@@ -144,18 +123,11 @@ module _ (h after : Heap) (grown : Grown h after) where
   -- an object without its class
   pub right_kept : (o : ObjectState) → is_right h o ≡ true → is_right after o ≡ true
   right_kept o is =
-      let outer = and_parts (chain_ends (length h.objects) h o.prototype && are_distinct o.properties) (list_all (λ (p : Key × Property). is_property h p.1) o.properties) is in
-      let inner = and_parts (chain_ends (length h.objects) h o.prototype) (are_distinct o.properties) outer.0 in
-      rw (chain_kept h after grown (length h.objects) (length after.objects) o.prototype grown.object_count inner.0, inner.1, properties_kept o.properties outer.1) refl
+      let outer = and_parts (is_depth h o.depth o.prototype && are_distinct o.properties) (list_all (λ (p : Key × Property). is_property h p.1) o.properties) is in
+      let inner = and_parts (is_depth h o.depth o.prototype) (are_distinct o.properties) outer.0 in
+      rw (depth_kept h after grown o.depth o.prototype inner.0, inner.1, properties_kept o.properties outer.1) refl
 
   pub object_kept : (o : ObjectState) → is_object h o ≡ true → is_object after o ≡ true
   object_kept o is =
       let parts = and_parts (is_right h o) (is_class h o o.class) is in
       and_from (is_right after o) (is_class after o o.class) (right_kept o parts.0) (class_kept o o.class parts.1)
-
-  pub scope_kept : (s : Scope) → is_scope h s ≡ true → is_scope after s ≡ true
-  scope_kept s is =
-      let parts = and_parts (scope_chain_ends (length h.scopes) h s.outer) (list_all (λ (n : List ℕ × CellNo). nat_lt n.1 (length h.cells)) s.names) is in
-      and_from (scope_chain_ends (length after.scopes) after s.outer) (list_all (λ (n : List ℕ × CellNo). nat_lt n.1 (length after.cells)) s.names)
-      (scope_chain_kept h after grown (length h.scopes) (length after.scopes) s.outer grown.scope_count parts.0)
-      (all_kept (λ (n : List ℕ × CellNo). nat_lt n.1 (length h.cells)) (λ (n : List ℕ × CellNo). nat_lt n.1 (length after.cells)) s.names (λ n. less_kept n.1 (length h.cells) (length after.cells) grown.cell_count) parts.1)

@@ -1,6 +1,6 @@
 -- [[DefineOwnProperty]] of arrays keeps a heap valid (15.4.5.1).
 use Rattle.std.proofs.Common.{◌≡◌, refl, ap, ◌∙◌, Bool, true, false, List, [], ◌∷◌, arith, sym}
-use Rattle.std.specs.Prelude.{◌≤◌, ℕ, ◌+◌, nat_lt, nat_le, nat_eq, max, pos, ◌&&◌, not, if◌then◌else◌, Option, Some, None}
+use Rattle.std.specs.Prelude.{◌≤◌, ℕ, ◌+◌, nat_lt, nat_le, nat_eq, max, pos, ◌&&◌, not, if◌then◌else◌, Option, Some, None, unwrap_or}
 use Rattle.std.specs.Cmp.Lexicographic.{same_text}
 use Rattle.std.specs.List.{list_all, filter}
 use Rattle.std.specs.Fmt.{decimal}
@@ -9,7 +9,7 @@ use Rattle.std.proofs.lemmas.Bool.{and_parts}
 use Rattle.js_value.specs.Conversions.{is_same_text, are_digits, digits_value}
 use Rattle.js_value.specs.declared.primitive.Primitive.TheVariants as primitive
 use Rattle.plain_heap.specs.Heap.{Heap, Class, Plain, Array, Function, Builtin, is_array_class, object_at, set_object, Key, Property, Properties, DataProperty, ObjectState, is_configurable, lookup, data_property}
-use Rattle.plain_heap.specs.Methods.{Descriptor, Defining, Defined, Rejected, value_field, or_value, with_property, define_plain, then_if, length_key, length_of, greatest_length, array_index, define_element, above_fixed, stop_at, is_below, cut_at, shorten, set_length_to, set_length_by, set_length, define_in_array, define_array, define, put, Define}
+use Rattle.plain_heap.specs.Methods.{Descriptor, Defining, Defined, Rejected, value_field, with_property, define_plain, then_if, length_key, length_of, greatest_length, array_index, define_element, above_fixed, stop_at, is_below, cut_at, shorten, set_length_to, set_length_by, set_length, define_in_array, define_array, define, put, Define}
 use Rattle.plain_heap.specs.Values.{Value, ObjNo, Prim, number}
 use Rattle.plain_heap.specs.Valid.{if_some, is_value, is_property, are_distinct, is_class, is_object, is_valid}
 use Rattle.plain_heap.specs.Laws.{is_change, IsKept, DefinesValid, outcome}
@@ -102,12 +102,12 @@ fold_small g n (p ∷ ps) is each = fold_small g (max n (above_fixed p)) ps (max
 above_small : (p : Key × Property) → nat_le (above_fixed p) greatest_length ≡ true
 above_small p = by_configurable (is_configurable p.1) (by_index (array_index p.0) refl)
   where
-    by_index : (found : Option ℕ) → array_index p.0 ≡ found → nat_le (or_value 0 (option_map (λ n. n + 1) found)) greatest_length ≡ true
+    by_index : (found : Option ℕ) → array_index p.0 ≡ found → nat_le (unwrap_or (option_map (λ n. n + 1) found) 0) greatest_length ≡ true
     by_index None at = refl
     by_index (Some n) at = next_small n greatest_length (index_small p.0 n at)
 
-    by_configurable : (b : Bool) → nat_le (or_value 0 (option_map (λ n. n + 1) (array_index p.0))) greatest_length ≡ true
-        → nat_le (if b then 0 else or_value 0 (option_map (λ n. n + 1) (array_index p.0))) greatest_length ≡ true
+    by_configurable : (b : Bool) → nat_le (unwrap_or (option_map (λ n. n + 1) (array_index p.0)) 0) greatest_length ≡ true
+        → nat_le (if b then 0 else unwrap_or (option_map (λ n. n + 1) (array_index p.0)) 0) greatest_length ≡ true
     by_configurable true is = refl
     by_configurable false is = is
 
@@ -143,7 +143,7 @@ module _ {A : Type 0} (test : Key × A → Bool) where
 below_is : (n : ℕ) (p : Key × Property) → is_below n p ≡ true → below_length (Some n) p ≡ true
 below_is n p is = by_index (array_index p.0) is
   where
-    by_index : (found : Option ℕ) → or_value true (option_map (λ index. nat_lt index n) found) ≡ true → if_some (λ i. nat_lt i n) found ≡ true
+    by_index : (found : Option ℕ) → unwrap_or (option_map (λ index. nat_lt index n) found) true ≡ true → if_some (λ i. nat_lt i n) found ≡ true
     by_index None is = refl
     by_index (Some i) is = is
 
@@ -152,6 +152,7 @@ cut_right h base o q old n array = record {
   like = record {
     class = array.like.class;
     prototype = array.like.prototype;
+    depth = array.like.depth;
     distinct = distinct_filtered (is_below n) o.properties array.like.distinct;
     properties = all_filtered (is_below n) (λ (p : Key × Property). is_property h p.1) o.properties array.like.properties;
   };
@@ -166,7 +167,7 @@ shorten_ends : (h : Heap) (base o : ObjectState) (q : DataProperty) (old wanted 
 shorten_ends h base o q old wanted d array writable small =
     let stop = stop_at wanted o.properties in
     let cut = cut_right h base o q old stop array in
-    let w = or_value true d.writable in
+    let w = unwrap_or d.writable true in
     let last : ObjectState → Defining = λ o. if nat_eq stop wanted then Defined o else Rejected o in
     let next = put_length h base (cut_at stop o) q (record { value = number stop; writable = w; enumerable = false; configurable = false }) stop stop cut refl refl refl cut.below in
     let is = the_array (number_length stop (fold_small greatest_length wanted o.properties small above_small)) next in
@@ -192,7 +193,7 @@ length_to_ends h base o d q old wanted v array has change given number =
     raised : nat_le old wanted ≡ true → Ends (IsArray h base) (IsArray h base) (define_plain length_key d o)
     raised le =
         length_ends (IsArray h base) (IsArray h base) h base o q old wanted d array change (below_kept old wanted o.properties (is_at_most old wanted le) array.below)
-        (λ r value writable is. the_array (ap length_of (value ∙ ap (or_value q.value) given) ∙ number) is) (the_array has array)
+        (λ r value writable is. the_array (ap length_of (value ∙ ap (λ found. unwrap_or found q.value) given) ∙ number) is) (the_array has array)
 
     lowered : Ends (IsArray h base) (IsArray h base) lowering
     lowered =
@@ -203,7 +204,7 @@ length_to_ends h base o d q old wanted v array has change given number =
 set_length_ends : (h : Heap) (base o : ObjectState) (d : Descriptor) (q : DataProperty) (old : ℕ) (v : Option Value) → IsArrayTo h base o q old → length_of q.value ≡ Some old → is_change h d ≡ true
     → d.value ≡ v → Ends (IsArray h base) (IsArray h base) (set_length d o q old v)
 set_length_ends h base o d q old None array has change given =
-    length_ends (IsArray h base) (IsArray h base) h base o q old old d array change array.below (λ r value writable is. the_array (ap length_of (value ∙ ap (or_value q.value) given) ∙ has) is) (the_array has array)
+    length_ends (IsArray h base) (IsArray h base) h base o q old old d array change array.below (λ r value writable is. the_array (ap length_of (value ∙ ap (λ found. unwrap_or found q.value) given) ∙ has) is) (the_array has array)
 set_length_ends h base o d q old (Some v) array has change given = by_number (length_of v) refl
   where
     by_number : (found : Option ℕ) → length_of v ≡ found → Ends (IsArray h base) (IsArray h base) (set_length_by d o q old found)
@@ -215,10 +216,10 @@ set_length_ends h base o d q old (Some v) array has change given = by_number (le
 in_array_ends : (h : Heap) (base o : ObjectState) (key : Key) (d : Descriptor) (q : DataProperty) (old : ℕ) → IsArrayTo h base o q old → length_of q.value ≡ Some old → is_change h d ≡ true
     → Ends (IsArray h base) (IsArray h base) (define_in_array key d o q old)
 in_array_ends h base o key d q old array has change =
-    ends_if (IsArray h base) (IsArray h base) (is_same_text key length_key) (set_length d o q old d.value) (or_value (define_plain key d o) (option_map (define_element key d o q old) (array_index key)))
+    ends_if (IsArray h base) (IsArray h base) (is_same_text key length_key) (set_length d o q old d.value) (unwrap_or (option_map (define_element key d o q old) (array_index key)) (define_plain key d o))
     (λ same. set_length_ends h base o d q old d.value array has change refl) (λ differ. by_index differ (array_index key) refl)
   where
-    by_index : is_same_text key length_key ≡ false → (found : Option ℕ) → array_index key ≡ found → Ends (IsArray h base) (IsArray h base) (or_value (define_plain key d o) (option_map (define_element key d o q old) found))
+    by_index : is_same_text key length_key ≡ false → (found : Option ℕ) → array_index key ≡ found → Ends (IsArray h base) (IsArray h base) (unwrap_or (option_map (define_element key d o q old) found) (define_plain key d o))
     by_index differ None at =
         plain_ends (IsArray h base) (IsArray h base) h base o key d array.like change
         (λ p is. the_array has (put_element h base o q old old key p array differ (omega arith) (ap (if_some (λ i. nat_lt i old)) at) is)) (the_array has array)
@@ -234,14 +235,14 @@ array_ends h base o key d q old array has change = rw (array.at, has) (in_array_
 array_class : (class : Class) → is_array_class class ≡ true → class ≡ Array
 array_class Array is = refl
 array_class Plain is = grind (arith, is)
-array_class (Function f s) is = grind (arith, is)
+array_class (Function f names strict) is = grind (arith, is)
 array_class (Builtin n) is = grind (arith, is)
 
 -- a class other than that of arrays says nothing of the properties
 any_properties : (h : Heap) (o after : ObjectState) (class : Class) → is_array_class class ≡ false → is_class h o class ≡ true → is_class h after class ≡ true
 any_properties h o after Array other is = grind (arith, other)
 any_properties h o after Plain other is = is
-any_properties h o after (Function f s) other is = is
+any_properties h o after (Function f names strict) other is = is
 any_properties h o after (Builtin n) other is = is
 
 array_has : (h : Heap) (base o : ObjectState) → IsArray h base o → HasLength o.properties

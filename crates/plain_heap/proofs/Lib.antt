@@ -1,4 +1,3 @@
-pub mod MethodCases
 pub mod Properties
 pub mod Puts
 pub mod Grown

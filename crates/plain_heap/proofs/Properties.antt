@@ -1,12 +1,12 @@
 -- Lists of properties: looking up, putting and leaving out.
 use Rattle.std.proofs.Common.{◌≡◌, refl, ap, ◌∙◌, Bool, true, false, List, [], ◌∷◌, ◌++◌, arith, sym}
-use Rattle.std.specs.Prelude.{if◌then◌else◌, Option, Some, None}
+use Rattle.std.specs.Prelude.{if◌then◌else◌, Option, Some, None, unwrap_or}
 use Rattle.std.specs.Cmp.Lexicographic.{nat_list_eq_equiv}
 use Rattle.std.specs.List.{list_any}
 use Rattle.js_value.specs.Conversions.{is_same_text}
 use Rattle.plain_heap.specs.Heap.{Key, Property, ObjectState, is_configurable, lookup, put_at, without}
 use Rattle.plain_heap.specs.Laws.{SetsProperties, DeletesProperties}
-use Rattle.plain_heap.specs.Methods.{or_value, own_property, delete, delete_by}
+use Rattle.plain_heap.specs.Methods.{own_property, delete, delete_by}
 use Rattle.plain_heap.specs.Valid.{are_distinct}
 
 same_self : (key : Key) → is_same_text key key ≡ true
@@ -66,7 +66,7 @@ sets_properties = record {
 }
 
 pub some_is : {A : Type 0} (x y : A) → Some x ≡ Some y → x ≡ y
-some_is x y is = ap (or_value x) is
+some_is x y is = ap (λ found. unwrap_or found x) is
 
 pub only_some : {B : Type 0} (b : Bool) (x y : B) → (if b then Some x else None) ≡ Some y → (b ≡ true) × (x ≡ y)
 only_some true x y is = (refl, some_is x y is)
@@ -74,7 +74,7 @@ only_some false x y is = grind (arith, is)
 
 gone_by : (key : Key) (o after : ObjectState) (found : Option Property) → are_distinct o.properties ≡ true → lookup key o.properties ≡ found → delete_by key o found ≡ Some after
     → own_property key after ≡ None
-gone_by key o after None distinct is e = rw (sym (ap (or_value o) e)) is
+gone_by key o after None distinct is e = rw (sym (ap (λ found. unwrap_or found o) e)) is
 gone_by key o after (Some p) distinct is e = rw (sym (only_some (is_configurable p) (record o { properties = without key o.properties }) after e).1) (gone key o.properties distinct)
 
 deletes_gone : (key : Key) (o after : ObjectState) → are_distinct o.properties ≡ true → delete key o ≡ Some after → own_property key after ≡ None

@@ -4,12 +4,12 @@ use Rattle.std.specs.Cmp.Lexicographic.{same_text}
 use Rattle.std.specs.Option.{option_and_then, option_map}
 use Rattle.std.proofs.lemmas.List.{length-set, get_or-set_same}
 use Rattle.std.proofs.lemmas.Option.{slice_get_within, slice_get_read}
-use Rattle.std.specs.Prelude.{◌<◌, zero, suc, length, slice_set, ℕ, ◌+◌, nat_lt, nat_le, nat_eq, pos, if◌then◌else◌, ◌||◌, not, Option, Some, None}
-use Rattle.plain_heap.specs.Methods.{put, put_by, put_found, setter, Putting, Define, Refuse, can_put, get, get_property, property_along, GotValue, array_index, then_if, define_element, length_key, length_of, greatest_length, stop_at, cut_at, shorten, set_length_by, set_length, define_in_array, define_array_by, define_array, define, value_field, own_property, BadLength, IfSame, Descriptor, Defining, Defined, Rejected, or_value, with_property, define_plain, define_by, if_allowed, if_data_allowed, if_same_value, is_barred, made, changed}
+use Rattle.std.specs.Prelude.{◌<◌, zero, suc, length, slice_set, ℕ, ◌+◌, nat_lt, nat_le, nat_eq, pos, if◌then◌else◌, ◌||◌, not, Option, Some, None, unwrap_or}
+use Rattle.plain_heap.specs.Methods.{put, put_by, put_found, setter, Putting, Define, Refuse, can_put, get, get_property, property_along, GotValue, array_index, then_if, define_element, length_key, length_of, greatest_length, stop_at, cut_at, shorten, set_length_by, set_length, define_in_array, define_array_by, define_array, define, value_field, own_property, BadLength, IfSame, Descriptor, Defining, Defined, Rejected, with_property, define_plain, define_by, if_allowed, if_data_allowed, if_same_value, is_barred, made, changed}
 use Rattle.plain_heap.specs.Values.{ObjNo, Value, Prim, number}
 use Rattle.js_value.specs.Conversions.{is_same_text}
 use Rattle.plain_heap.specs.Laws.{GetsWhatWasPut}
-use Rattle.plain_heap.specs.Heap.{Heap, object_at, set_object, Key, Property, Data, Accessor, DataProperty, ObjectState, is_array_class}
+use Rattle.plain_heap.specs.Heap.{Heap, object_at, set_object, Key, Property, Data, Accessor, DataProperty, ObjectState, is_array_class, depth_at}
 use Rattle.plain_heap.proofs.Properties.{lookup_put, lookup_put_other, same_sym, only_some}
 use Rattle.js_value.specs.declared.primitive.Primitive.TheVariants as primitive
 
@@ -38,18 +38,18 @@ unbarred false o after m e = e
 chosen_if_data : (p : DataProperty) (v : Value) (w e c : Option Bool) (o x after : ObjectState) → if_data_allowed p (with_value v w e c) (Defined x) (Rejected o) ≡ Defined after → x ≡ after
 chosen_if_data p v w e c o x after is = by_writable (p.configurable || p.writable) is
   where
-    by_writable : (b : Bool) → (if b then Defined x else (if or_value false w then Rejected o else if_same_value (Some v) p.value (Defined x) (Rejected o))) ≡ Defined after → x ≡ after
+    by_writable : (b : Bool) → (if b then Defined x else (if unwrap_or w false then Rejected o else if_same_value (Some v) p.value (Defined x) (Rejected o))) ≡ Defined after → x ≡ after
     by_writable true is = ap (λ r. the_object r o) is
-    by_writable false is = grind (arith, unbarred (or_value false w) o after (if_same_value (Some v) p.value (Defined x) (Rejected o)) is)
+    by_writable false is = grind (arith, unbarred (unwrap_or w false) o after (if_same_value (Some v) p.value (Defined x) (Rejected o)) is)
 
 plain_by : (key : Key) (v : Value) (w e c : Option Bool) (o after : ObjectState) (found : Option Property) → define_by key (with_value v w e c) o found ≡ Defined after → Holds key v o after
 plain_by key v w e c o after None is = record {
-  property = record { value = v; writable = or_value false w; enumerable = or_value false e; configurable = or_value false c };
+  property = record { value = v; writable = unwrap_or w false; enumerable = unwrap_or e false; configurable = unwrap_or c false };
   value = refl;
   is = sym (chosen o.extensible o (with_property key (made (with_value v w e c)) o) after is);
 }
 plain_by key v w e c o after (Some (Data p)) is = record {
-  property = record { value = v; writable = or_value p.writable w; enumerable = or_value p.enumerable e; configurable = or_value p.configurable c };
+  property = record { value = v; writable = unwrap_or w p.writable; enumerable = unwrap_or e p.enumerable; configurable = unwrap_or c p.configurable };
   value = refl;
   is =
       sym
@@ -57,7 +57,7 @@ plain_by key v w e c o after (Some (Data p)) is = record {
       (unbarred (is_barred (Data p) (with_value v w e c)) o after (if_allowed (Data p) (with_value v w e c) (Defined (with_property key (changed (Data p) (with_value v w e c)) o)) (Rejected o)) is));
 }
 plain_by key v w e c o after (Some (Accessor p)) is = record {
-  property = record { value = v; writable = or_value false w; enumerable = or_value p.enumerable e; configurable = or_value p.configurable c };
+  property = record { value = v; writable = unwrap_or w false; enumerable = unwrap_or e p.enumerable; configurable = unwrap_or c p.configurable };
   value = refl;
   is =
       sym
@@ -144,7 +144,7 @@ shortened : (v : Value) (w e c : Option Bool) (o after : ObjectState) (wanted : 
 shortened v w e c o after wanted same is = ended (went_on first last after is)
   where
     first : Defining
-    first = define_plain length_key (with_value (number (stop_at wanted o.properties)) (Some (or_value true w)) None None) (cut_at (stop_at wanted o.properties) o)
+    first = define_plain length_key (with_value (number (stop_at wanted o.properties)) (Some (unwrap_or w true)) None None) (cut_at (stop_at wanted o.properties) o)
 
     last : ObjectState → Defining
     last p = if nat_eq (stop_at wanted o.properties) wanted then Defined p else Rejected p
@@ -152,7 +152,7 @@ shortened v w e c o after wanted same is = ended (went_on first last after is)
     ended : WentOn first last after → Gives length_key v after
     ended on =
         let chose = chosen_object (nat_eq (stop_at wanted o.properties) wanted) on.middle after on.second in
-        let gives : Gives length_key (number (stop_at wanted o.properties)) after = rw (sym chose.1) (plain_gives length_key (number (stop_at wanted o.properties)) (Some (or_value true w)) None None (cut_at (stop_at wanted o.properties) o) on.middle on.first) in
+        let gives : Gives length_key (number (stop_at wanted o.properties)) after = rw (sym chose.1) (plain_gives length_key (number (stop_at wanted o.properties)) (Some (unwrap_or w true)) None None (cut_at (stop_at wanted o.properties) o) on.middle on.first) in
         renamed length_key v (number (stop_at wanted o.properties)) after (same ∙ ap number (sym (equal_numbers (stop_at wanted o.properties) wanted chose.0))) gives
 
 set_length_gives : (v : Value) (w e c : Option Bool) (o after : ObjectState) (length : DataProperty) (old : ℕ) (found : Option ℕ) → length_of v ≡ found
@@ -174,7 +174,7 @@ set_length_gives v w e c o after length old (Some wanted) named is = by_order (n
 -- ---- 15.4.5.1, and any object
 
 in_array_gives : (key : Key) (v : Value) (w e c : Option Bool) (o after : ObjectState) (length : DataProperty) (old : ℕ) (b : Bool) (found : Option ℕ) → is_same_text key length_key ≡ b
-    → (if b then set_length (with_value v w e c) o length old (Some v) else or_value (define_plain key (with_value v w e c) o) (option_map (define_element key (with_value v w e c) o length old) found)) ≡ Defined after
+    → (if b then set_length (with_value v w e c) o length old (Some v) else unwrap_or (option_map (define_element key (with_value v w e c) o length old) found) (define_plain key (with_value v w e c) o)) ≡ Defined after
     → Gives key v after
 in_array_gives key v w e c o after length old true found same is = rw (same_text key length_key (sym same)) (set_length_gives v w e c o after length old (length_of v) refl is)
 in_array_gives key v w e c o after length old false None differ is = plain_gives key v w e c o after is
@@ -185,7 +185,7 @@ array_gives key v w e c o after None is = plain_gives key v w e c o after is
 array_gives key v w e c o after (Some (Accessor p)) is = plain_gives key v w e c o after is
 array_gives key v w e c o after (Some (Data length)) is = by_length (length_of length.value) is
   where
-    by_length : (old : Option ℕ) → or_value (define_plain key (with_value v w e c) o) (option_map (define_in_array key (with_value v w e c) o length) old) ≡ Defined after → Gives key v after
+    by_length : (old : Option ℕ) → unwrap_or (option_map (define_in_array key (with_value v w e c) o length) old) (define_plain key (with_value v w e c) o) ≡ Defined after → Gives key v after
     by_length None is = plain_gives key v w e c o after is
     by_length (Some old) is = in_array_gives key v w e c o after length old (is_same_text key length_key) (array_index key) refl is
 
@@ -246,9 +246,8 @@ there h o state after is =
 got_own : (h : Heap) (o : ObjNo) (key : Key) (v : Value) (state after : ObjectState) → object_at h o ≡ Some state → Gives key v after → get (set_object o after h) o key ≡ GotValue v
 unfolding get get_property
 got_own h o key v state after is gives =
-    let within = slice_get_within h.objects o state is in
-    let size = length-set h.objects o after in
-    rw (found_first (length (slice_set h.objects o after)) (set_object o after h) key o after (Data gives.property) (omega arith) (there h o state after is) gives.is) (ap (λ u. GotValue u) gives.value)
+    let now = there h o state after is in
+    rw (found_first (depth_at (set_object o after h) (Some o)) (set_object o after h) key o after (Data gives.property) (rw now (omega arith)) now gives.is) (ap (λ u. GotValue u) gives.value)
 
 gets_put : (h : Heap) (o : ObjNo) (key : Key) (v : Value) (d : Descriptor) (state after : ObjectState) → object_at h o ≡ Some state → put h o key v ≡ Define d
     → define key d state ≡ Defined after → get (set_object o after h) o key ≡ GotValue v

@@ -2,10 +2,11 @@
 use Rattle.std.specs.Prelude.{◌≡◌, ◌≤◌, ◌&&◌, ℕ, nat_lt, length, Bool, List, [], ◌∷◌, ◌++◌, true, false, Option, Some, None}
 use Rattle.std.specs.List.{list_all}
 use Rattle.js_value.specs.Conversions.{is_same_text}
-use Rattle.plain_heap.specs.Heap.{Key, Property, Class, ObjectState, Heap, object_at, set_object, is_function, cell, resolve, new_cell, set_cell, new_scope, new_state, new_object, add_object}
+use Rattle.plain_heap.specs.Heap.{Key, Property, Class, ObjectState, Heap, object_at, set_object, is_function, cell, resolve, new_cell, set_cell, new_state, new_object, add_object, depth_at, Environment, Function}
 use Rattle.plain_heap.specs.Methods.{Descriptor, own_property, with_property, delete, put, Define, define, Defining, Defined, Rejected, BadLength, IfSame, get, GotValue, CallGetter, CallSetter}
-use Rattle.plain_heap.specs.Values.{Value, ObjNo, CellNo, ScopeNo}
-use Rattle.plain_heap.specs.Valid.{are_distinct, if_some, is_value, is_cell, is_class, is_object, is_valid}
+use Rattle.plain_heap.specs.Values.{Value, ObjNo, CellNo}
+use Rattle.plain_heap.specs.Valid.{are_distinct, if_some, is_value, is_cell, is_class, is_object, is_valid, are_cells}
+use Rattle.js_value.specs.declared.place.FuncNo.{FuncNo}
 
 -- a property that is set is there, the others are what they were, and each key stays distinct
 pub record SetsProperties : Type 0 where
@@ -31,19 +32,16 @@ pub record IsKept (h after : Heap) : Type 0 where
   pub valid : is_valid after ≡ true
   pub objects : length h.objects ≤ length after.objects
   pub cells : length h.cells ≤ length after.cells
-  pub scopes : length h.scopes ≤ length after.scopes
 
 abbrev pub add_objects : List ObjectState → Heap → Heap
 add_objects states h = record h { objects = h.objects ++ states }
 
--- new cells, scopes and objects, and a cell that is set
+-- new cells and objects, and a cell that is set
 pub record MakesValid : Type 0 where
   pub cell : (h : Heap) (v : Value) → is_valid h ≡ true → is_cell h v ≡ true → IsKept h (new_cell v h)
   pub set : (h : Heap) (c : CellNo) (v : Value) → is_valid h ≡ true → is_cell h v ≡ true → IsKept h (set_cell c v h)
-  pub scope : (h : Heap) (outer : Option ScopeNo) (names : List (List ℕ × CellNo)) → is_valid h ≡ true → if_some (λ s. nat_lt s (length h.scopes)) outer ≡ true
-      → list_all (λ (n : List ℕ × CellNo). nat_lt n.1 (length h.cells)) names ≡ true → IsKept h (new_scope outer names h)
   pub object : (h : Heap) (class : Class) (prototype : Option ObjNo) → is_valid h ≡ true → if_some (λ o. nat_lt o (length h.objects)) prototype ≡ true
-      → is_class h (new_state class prototype) class ≡ true → IsKept h (new_object class prototype h)
+      → is_class h (new_state class prototype (depth_at h prototype)) class ≡ true → IsKept h (new_object class prototype h)
   -- objects that may refer to one another, and two of them, as a function and its prototype
   pub objects : (h : Heap) (states : List ObjectState) → is_valid h ≡ true → list_all (is_object (add_objects states h)) states ≡ true → IsKept h (add_objects states h)
   pub pair : (h : Heap) (a b : ObjectState) → is_valid h ≡ true → is_object (add_object b (add_object a h)) a ≡ true → is_object (add_object b (add_object a h)) b ≡ true
@@ -51,7 +49,7 @@ pub record MakesValid : Type 0 where
 
 -- an object that is changed
 pub record ChangesValid : Type 0 where
-  pub object : (h : Heap) (o : ObjNo) (state after : ObjectState) → is_valid h ≡ true → object_at h o ≡ Some state → after.class ≡ state.class → after.prototype ≡ state.prototype
+  pub object : (h : Heap) (o : ObjNo) (state after : ObjectState) → is_valid h ≡ true → object_at h o ≡ Some state → after.class ≡ state.class → after.prototype ≡ state.prototype → after.depth ≡ state.depth
       → is_object h after ≡ true → IsKept h (set_object o after h)
   pub closes : (h : Heap) (o : ObjNo) (state : ObjectState) → is_valid h ≡ true → object_at h o ≡ Some state → IsKept h (set_object o (record state { extensible = false }) h)
   pub deletes : (h : Heap) (o : ObjNo) (key : Key) (state after : ObjectState) → is_valid h ≡ true → object_at h o ≡ Some state → delete key state ≡ Some after
@@ -81,4 +79,6 @@ pub record GivesValues : Type 0 where
   pub getters : (h : Heap) (o f : ObjNo) (key : Key) → is_valid h ≡ true → get h o key ≡ CallGetter f → is_function h f ≡ true
   pub setters : (h : Heap) (o f : ObjNo) (key : Key) (v : Value) → is_valid h ≡ true → put h o key v ≡ CallSetter f → is_function h f ≡ true
   pub cells : (h : Heap) (c : CellNo) (v : Value) → is_valid h ≡ true → cell h c ≡ Some v → is_cell h v ≡ true
-  pub names : (h : Heap) (s : Option ScopeNo) (name : List ℕ) (c : CellNo) → is_valid h ≡ true → resolve h s name ≡ Some c → nat_lt c (length h.cells) ≡ true
+  pub environments : (h : Heap) (o : ObjNo) (state : ObjectState) (f : FuncNo) (names : Environment) (strict : Bool) → is_valid h ≡ true → object_at h o ≡ Some state
+      → state.class ≡ Function f names strict → are_cells h names ≡ true
+  pub names : (h : Heap) (names : Environment) (name : List ℕ) (c : CellNo) → are_cells h names ≡ true → resolve names name ≡ Some c → nat_lt c (length h.cells) ≡ true

@@ -3,4 +3,3 @@ pub mod Heap
 pub mod Methods
 pub mod Valid
 pub mod Laws
-pub mod MethodCases

@@ -1,15 +1,15 @@
 -- The internal methods of objects by their numbered steps (8.12), and those of arrays (15.4.5). What calls a function is left
 -- to the caller, who is told of the getter or the setter.
-use Rattle.std.specs.Prelude.{ℕ, zero, suc, ◌+◌, ◌^◌, ◌-◌, ◌&&◌, ◌||◌, max, nat_eq, nat_le, nat_lt, pos, Bool, true, false, not, if◌then◌else◌, codes, fold, length, Option, Some, None, Result, Ok, Err, is_some}
+use Rattle.std.specs.Prelude.{ℕ, zero, suc, ◌+◌, ◌^◌, ◌-◌, ◌&&◌, ◌||◌, max, nat_eq, nat_le, nat_lt, pos, Bool, true, false, not, if◌then◌else◌, codes, fold, length, Option, Some, None, Result, Ok, Err, is_some, unwrap_or}
 use Rattle.std.specs.Fmt.{decimal}
 use Rattle.std.specs.List.{filter}
 use Rattle.std.specs.Option.{option_and_then, option_eq, option_map}
-use Rattle.js_value.specs.Conversions.{are_digits, digits_value, is_same_text, is_same_truth}
+use Rattle.js_value.specs.Conversions.{are_digits, digits_value, is_same_text, is_same_truth, is_same_value}
 use Rattle.js_value.specs.declared.primitive.Primitive.TheVariants as primitive
 use Rattle.js_value.specs.declared.why.Why.{Why}
 use Rattle.js_value.specs.declared.why.Why.TheVariants.{ProtoKey}
-use Rattle.plain_heap.specs.Values.{Value, ObjNo, Prim, undefined, number}
-use Rattle.plain_heap.specs.Heap.{Key, Property, Properties, Data, Accessor, DataProperty, AccessorProperty, ObjectState, Heap, is_configurable, is_enumerable, is_array_class, lookup, put_at, without, data_property, object_at, or_else}
+use Rattle.plain_heap.specs.Values.{Value, ObjNo, Prim, Object, undefined, number}
+use Rattle.plain_heap.specs.Heap.{Key, Property, Properties, Data, Accessor, DataProperty, AccessorProperty, ObjectState, Heap, is_configurable, is_enumerable, is_array_class, lookup, put_at, without, data_property, object_at, or_else, depth_at}
 
 -- A property operation on this key leaves the profile.
 abbrev pub checked_key : Key → Result Key Why
@@ -63,7 +63,7 @@ property_along (suc n) h key (Some o) =
     option_and_then (λ (state : ObjectState). or_else (option_map (λ (p : Property). (o, p)) (own_property key state)) (property_along n h key state.prototype)) (object_at h o)
 
 unfoldable pub get_property : Heap → Key → Option ObjNo → Option (ObjNo × Property)
-get_property h key o = property_along (length h.objects) h key o
+get_property h key o = property_along (depth_at h o) h key o
 
 -- ---- 8.12.3: [[Get]]
 
@@ -163,29 +163,25 @@ pub data Defining : Type 0 where
   BadLength : Defining
   IfSame : Value → Value → (Bool → Defining) → Defining
 
-abbrev pub or_value : {A : Type 0} → A → Option A → A
-or_value default None = default
-or_value default (Some a) = a
-
 -- step 4: a new property; an absent field is undefined or false
 abbrev pub made : Descriptor → Property
 made d =
-    if is_accessor d then Accessor (record { get = or_value None d.get; set = or_value None d.set; enumerable = or_value false d.enumerable; configurable = or_value false d.configurable })
-    else data_property (or_value undefined d.value) (or_value false d.writable) (or_value false d.enumerable) (or_value false d.configurable)
+    if is_accessor d then Accessor (record { get = unwrap_or d.get None; set = unwrap_or d.set None; enumerable = unwrap_or d.enumerable false; configurable = unwrap_or d.configurable false })
+    else data_property (unwrap_or d.value undefined) (unwrap_or d.writable false) (unwrap_or d.enumerable false) (unwrap_or d.configurable false)
 
 -- step 7: what a property that isn't configurable never allows
 abbrev pub is_barred : Property → Descriptor → Bool
-is_barred p d = not (is_configurable p) && (or_value false d.configurable || not (is_same_truth (or_value (is_enumerable p) d.enumerable) (is_enumerable p)))
+is_barred p d = not (is_configurable p) && (unwrap_or d.configurable false || not (is_same_truth (unwrap_or d.enumerable (is_enumerable p)) (is_enumerable p)))
 
 -- steps 9.b, 9.c and 12: a field that is there is taken over; where the property changes its sort, the others of the new sort are
 -- undefined or false
 abbrev pub changed : Property → Descriptor → Property
 changed (Data p) d =
-    if is_accessor d then Accessor (record { get = or_value None d.get; set = or_value None d.set; enumerable = or_value p.enumerable d.enumerable; configurable = or_value p.configurable d.configurable })
-    else data_property (or_value p.value d.value) (or_value p.writable d.writable) (or_value p.enumerable d.enumerable) (or_value p.configurable d.configurable)
+    if is_accessor d then Accessor (record { get = unwrap_or d.get None; set = unwrap_or d.set None; enumerable = unwrap_or d.enumerable p.enumerable; configurable = unwrap_or d.configurable p.configurable })
+    else data_property (unwrap_or d.value p.value) (unwrap_or d.writable p.writable) (unwrap_or d.enumerable p.enumerable) (unwrap_or d.configurable p.configurable)
 changed (Accessor p) d =
-    if is_data d then data_property (or_value undefined d.value) (or_value false d.writable) (or_value p.enumerable d.enumerable) (or_value p.configurable d.configurable)
-    else Accessor (record { get = or_value p.get d.get; set = or_value p.set d.set; enumerable = or_value p.enumerable d.enumerable; configurable = or_value p.configurable d.configurable })
+    if is_data d then data_property (unwrap_or d.value undefined) (unwrap_or d.writable false) (unwrap_or d.enumerable p.enumerable) (unwrap_or d.configurable p.configurable)
+    else Accessor (record { get = unwrap_or d.get p.get; set = unwrap_or d.set p.set; enumerable = unwrap_or d.enumerable p.enumerable; configurable = unwrap_or d.configurable p.configurable })
 
 abbrev pub is_same_function : Option ObjNo → Option ObjNo → Bool
 is_same_function = option_eq nat_eq
@@ -199,12 +195,12 @@ if_same_value (Some v) old done rejected = IfSame v old (λ same. if same then d
 abbrev pub if_data_allowed : DataProperty → Descriptor → Defining → Defining → Defining
 if_data_allowed p d done rejected =
     if p.configurable || p.writable then done
-    else (if or_value false d.writable then rejected else if_same_value d.value p.value done rejected)
+    else (if unwrap_or d.writable false then rejected else if_same_value d.value p.value done rejected)
 
 -- step 11.a
 abbrev pub if_accessor_allowed : AccessorProperty → Descriptor → Defining → Defining → Defining
 if_accessor_allowed p d done rejected =
-    if p.configurable || is_same_function (or_value p.set d.set) p.set && is_same_function (or_value p.get d.get) p.get then done else rejected
+    if p.configurable || is_same_function (unwrap_or d.set p.set) p.set && is_same_function (unwrap_or d.get p.get) p.get then done else rejected
 
 -- steps 8 to 11, where 9.a asks that a property that changes its sort is configurable
 abbrev pub if_allowed : Property → Descriptor → Defining → Defining → Defining
@@ -266,7 +262,7 @@ define_element key d o length old index =
 
 -- one above the index of an element that can't be deleted, else 0
 abbrev pub above_fixed : Key × Property → ℕ
-above_fixed p = if is_configurable p.1 then 0 else or_value 0 (option_map (λ n. n + 1) (array_index p.0))
+above_fixed p = if is_configurable p.1 then 0 else unwrap_or (option_map (λ n. n + 1) (array_index p.0)) 0
 
 -- step 3.l: the length at which deleting elements from the top down ends, which is the one wanted unless an element behind it can't
 -- be deleted
@@ -274,7 +270,7 @@ abbrev pub stop_at : ℕ → Properties → ℕ
 stop_at wanted ps = fold (λ n p. max n (above_fixed p)) wanted ps
 
 abbrev pub is_below : ℕ → Key × Property → Bool
-is_below n p = or_value true (option_map (λ index. nat_lt index n) (array_index p.0))
+is_below n p = unwrap_or (option_map (λ index. nat_lt index n) (array_index p.0)) true
 
 abbrev pub cut_at : ℕ → ObjectState → ObjectState
 cut_at n o = record o { properties = filter (is_below n) o.properties }
@@ -284,7 +280,7 @@ cut_at n o = record o { properties = filter (is_below n) o.properties }
 abbrev pub shorten : ℕ → Descriptor → ObjectState → Defining
 shorten wanted d o =
     let stop = stop_at wanted o.properties in
-    then_if (define_plain length_key (record no_fields { value = Some (number stop); writable = Some (or_value true d.writable) }) (cut_at stop o)) (λ o. if nat_eq stop wanted then Defined o else Rejected o) (λ o. Rejected o)
+    then_if (define_plain length_key (record no_fields { value = Some (number stop); writable = Some (unwrap_or d.writable true) }) (cut_at stop o)) (λ o. if nat_eq stop wanted then Defined o else Rejected o) (λ o. Rejected o)
 
 -- steps 3.f to 3.n; until elements are deleted the length stays writable (3.i)
 abbrev pub set_length_to : Descriptor → ObjectState → DataProperty → ℕ → ℕ → Defining
@@ -306,11 +302,11 @@ set_length d o length old (Some v) = set_length_by d o length old (length_of v)
 -- steps 3 to 5
 abbrev pub define_in_array : Key → Descriptor → ObjectState → DataProperty → ℕ → Defining
 define_in_array key d o length old =
-    if is_same_text key length_key then set_length d o length old d.value else or_value (define_plain key d o) (option_map (define_element key d o length old) (array_index key))
+    if is_same_text key length_key then set_length d o length old d.value else unwrap_or (option_map (define_element key d o length old) (array_index key)) (define_plain key d o)
 
 -- step 1: an array has a length, a data property whose value is a number from 0 to 2^32 - 1
 abbrev pub define_array_by : Key → Descriptor → ObjectState → Option Property → Defining
-define_array_by key d o (Some (Data length)) = or_value (define_plain key d o) (option_map (define_in_array key d o length) (length_of length.value))
+define_array_by key d o (Some (Data length)) = unwrap_or (option_map (define_in_array key d o length) (length_of length.value)) (define_plain key d o)
 define_array_by key d o _ = define_plain key d o
 
 unfoldable pub define_array : Key → Descriptor → ObjectState → Defining
@@ -319,3 +315,30 @@ define_array key d o = define_array_by key d o (own_property length_key o)
 -- [[DefineOwnProperty]] of any object
 unfoldable pub define : Key → Descriptor → ObjectState → Defining
 define key d o = if is_array_class o.class then define_array key d o else define_plain key d o
+
+-- ---- what a change comes to where no symbol stands: then no question is left open
+
+pub data Settled : Type 0 where
+  Changed : ObjectState → Settled
+  Refused : ObjectState → Settled
+  NotALength : Settled
+  -- the value of a built-in that is left out would have to be compared
+  OfAbsent : Settled
+
+-- 9.12 on known values, of which none is left out
+abbrev pub is_same_known : Value → Value → Option Bool
+is_same_known (Prim p) (Prim q) = Some (is_same_value p q)
+is_same_known (Object m) (Object n) = Some (nat_eq m n)
+is_same_known (Prim p) (Object n) = Some false
+is_same_known (Object m) (Prim q) = Some false
+is_same_known _ _ = None
+
+abbrev pub settled_if : Option Bool → (Bool → Settled) → Settled
+settled_if None rest = OfAbsent
+settled_if (Some same) rest = rest same
+
+abbrev pub settled : Defining → Settled
+settled (Defined o) = Changed o
+settled (Rejected o) = Refused o
+settled BadLength = NotALength
+settled (IfSame v w rest) = settled_if (is_same_known v w) (λ same. settled (rest same))

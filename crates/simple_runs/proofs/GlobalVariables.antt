@@ -63,7 +63,7 @@ module _ {A : Type 0} where
 -- ---- the realm's global object
 
 abbrev pub global_own : Properties
-global_own = or_value [] (option_map (λ (state : ObjectState). state.properties) (object_at realm global))
+global_own = unwrap_or (option_map (λ (state : ObjectState). state.properties) (object_at realm global)) []
 
 abbrev are_taken : Properties → Bool
 are_taken own = list_all (λ (p : Key × Property). is_taken p.0) own

@@ -59,7 +59,7 @@ module _ (own : Properties) (prototype : Option ObjNo) (rest : List ObjectState)
   same_class vs (Function f s) = refl
   same_class vs (Builtin n) = refl
 
-  same_object : (vs : simple.Heap) (o : Option ObjectState) → or_value [] (option_map (in_object free (with_these vs)) o) ≡ or_value [] (option_map (in_object free (with_these [])) o)
+  same_object : (vs : simple.Heap) (o : Option ObjectState) → unwrap_or (option_map (in_object free (with_these vs)) o) [] ≡ unwrap_or (option_map (in_object free (with_these [])) o) []
   same_object vs None = refl
   same_object vs (Some o) = ap (λ items. in_value (object_or_null o.prototype) ++ items_of o.properties ++ items) (same_class vs o.class)
 
@@ -96,7 +96,7 @@ module _ (own : Properties) (prototype : Option ObjNo) (rest : List ObjectState)
     same_row vs (AnObject zero) other = cc
     same_row vs (AnObject (suc n)) other = by_state (slice_get rest n)
       where
-        by_state : (o : Option ObjectState) → or_value [] (option_map (λ state. object_row code free (with_these vs) queue (suc n) state ∷ []) o) ≡ or_value [] (option_map (λ state. object_row code free (with_these []) queue (suc n) state ∷ []) o)
+        by_state : (o : Option ObjectState) → unwrap_or (option_map (λ state. object_row code free (with_these vs) queue (suc n) state ∷ []) o) [] ≡ unwrap_or (option_map (λ state. object_row code free (with_these []) queue (suc n) state ∷ []) o) []
         by_state None = refl
         by_state (Some o) = ap (λ sort. (if nat_lt (suc n) realm_count then row_of_realm queue (suc n) o else NewRow (rank is_new_object queue (AnObject (suc n))) sort (listed_value queue (object_or_null o.prototype)) (not o.extensible) (map (listed_property queue) o.properties)) ∷ []) (same_sort vs o.class)
     same_row vs (ACell c) other = refl

@@ -25,7 +25,7 @@ with_variables vs state = record state { properties = state.properties ++ map va
 
 -- the objects that are there from the start, with these variables behind the global object's own properties
 unfoldable pub realm_with : List (List ℕ × Primitive) → Heap
-realm_with vs = or_value realm (option_map (λ (state : ObjectState). set_object global (with_variables vs state) realm) (object_at realm global))
+realm_with vs = unwrap_or (option_map (λ (state : ObjectState). set_object global (with_variables vs state) realm) (object_at realm global)) realm
 
 -- what an outcome by the rules of simple scripts says of the outcome by those of the whole language: a form without a rule is never met
 abbrev pub Says : simple.Outcome → Outcome → Type 0

@@ -26,7 +26,7 @@ Lines = FuncNo → Names → List ℕ
 
 -- lines in the order of the numbers of their functions
 abbrev numbered : List (List ℕ) → Lines
-numbered lines f captured = or_value [] (slice_get lines f.0)
+numbered lines f captured = unwrap_or (slice_get lines f.0) []
 
 -- A heap, what the insides of the functions mention, and the functions with the names that are bound where the heap has them.
 module _ (h : Heap) (insides : List Inside) (shown : List (FuncNo × Names)) where

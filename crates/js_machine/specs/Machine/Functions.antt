@@ -32,7 +32,7 @@ this_value at v = leave PrimitiveThis at
 -- ---- 10.5: declaration binding in function code
 
 abbrev pub function_name : List Func → FuncNo → Names
-function_name functions f = or_value [] (option_and_then (λ (g : Func). Some (own_name g.name)) (slice_get functions f.0))
+function_name functions f = unwrap_or (option_and_then (λ (g : Func). Some (own_name g.name)) (slice_get functions f.0)) []
 
 -- every name once: parameters, functions, variables
 abbrev pub declared_names : List Func → Func → Names
@@ -40,11 +40,11 @@ declared_names functions f = distinct (map (λ (p : Name). p.text) f.params ++ f
 
 -- a name of the scope gets a value
 abbrev pub bind : List (List ℕ × CellNo) → List ℕ → Value → Run (Unit {0})
-bind names name v = or_value (give tt) (option_and_then (λ c. Some (change (set_cell c v))) (lookup name names))
+bind names name v = unwrap_or (option_and_then (λ c. Some (change (set_cell c v))) (lookup name names)) (give tt)
 
 -- the argument at a position, or undefined
 abbrev pub argument : List Value → ℕ → Value
-argument arguments n = or_value undefined (slice_get arguments n)
+argument arguments n = unwrap_or (slice_get arguments n) undefined
 
 -- step 4: of two parameters with one name the later one wins
 abbrev pub bind_parameters : List (List ℕ × CellNo) → List Value → ℕ → List Name → Run (Unit {0})
@@ -86,7 +86,7 @@ function_call functions stmt at scope this arguments f = do
 -- a number that names no function of the code; a valid start has none
 unfoldable pub call_function : List Func → (Context → Stmt → Run Flow) → Place → FuncNo → Option ScopeNo → Value → List Value → Run Value
 call_function functions stmt at f scope this arguments =
-    or_value (throw_error TypeError) (option_and_then (λ (g : Func). Some (function_call functions stmt at scope this arguments g)) (slice_get functions f.0))
+    unwrap_or (option_and_then (λ (g : Func). Some (function_call functions stmt at scope this arguments g)) (slice_get functions f.0)) (throw_error TypeError)
 
 -- ---- 13.2.2: [[Construct]]
 

@@ -38,7 +38,7 @@ abbrev pub Builtins : Type 0
 Builtins = Place → Rule → Value → List Value → Run Value
 
 abbrev pub class_of : ObjNo → Heap → Class
-class_of o h = or_value Plain (option_map (λ (state : ObjectState). state.class) (object_at h o))
+class_of o h = unwrap_or (option_map (λ (state : ObjectState). state.class) (object_at h o)) Plain
 
 -- ---- a call of a value (13.2.1)
 

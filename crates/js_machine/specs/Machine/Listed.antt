@@ -43,7 +43,7 @@ abbrev pub captured : FreeNames → Heap → FuncNo → Option ScopeNo → Names
 captured free h f scope = filter (λ name. is_some (resolve h scope name)) (free f)
 
 abbrev pub in_cells : Heap → Option ScopeNo → Names → List CellNo
-in_cells h scope names = flat_map (λ name. or_value [] (option_map (λ c. c ∷ []) (resolve h scope name))) names
+in_cells h scope names = flat_map (λ name. unwrap_or (option_map (λ c. c ∷ []) (resolve h scope name)) []) names
 
 abbrev pub in_class : FreeNames → Heap → Class → List Item
 in_class free h (Function f scope) = map (λ c. ACell c) (in_cells h scope (captured free h f scope))
@@ -54,8 +54,8 @@ abbrev pub in_object : FreeNames → Heap → ObjectState → List Item
 in_object free h o = in_value (object_or_null o.prototype) ++ flat_map (λ (p : Key × Property). in_property p.1) o.properties ++ in_class free h o.class
 
 abbrev pub next_of : FreeNames → Heap → Item → List Item
-next_of free h (AnObject o) = or_value [] (option_map (in_object free h) (object_at h o))
-next_of free h (ACell c) = in_value (or_value undefined (cell h c))
+next_of free h (AnObject o) = unwrap_or (option_map (in_object free h) (object_at h o)) []
+next_of free h (ACell c) = in_value (unwrap_or (cell h c) undefined)
 
 abbrev pub has_item : List Item → Item → Bool
 has_item items item = list_any (is_same_item item) items
@@ -67,7 +67,7 @@ enter queue (item ∷ more) = if has_item queue item then enter queue more else 
 
 -- the object of the realm with the least number that hasn't entered
 abbrev pub left_of_realm : List Item → Option ObjNo
-left_of_realm queue = or_value None (option_map (λ n. Some n) (position (λ o. not (has_item queue (AnObject o))) (range_with_len 0 realm_count)))
+left_of_realm queue = unwrap_or (option_map (λ n. Some n) (position (λ o. not (has_item queue (AnObject o))) (range_with_len 0 realm_count))) None
 
 -- the queue, and how many of its items were taken
 abbrev pub Walked : Type 0
@@ -76,7 +76,7 @@ Walked = ℕ × List Item
 -- What the next item leads to enters. At the end of the queue the realm goes on, until all of it has entered.
 abbrev pub advance : FreeNames → Heap → Walked → Option Item → Walked
 advance free h walked (Some item) = (suc walked.0, enter walked.1 (next_of free h item))
-advance free h walked None = (walked.0, or_value walked.1 (option_map (λ o. walked.1 ++ AnObject o ∷ []) (left_of_realm walked.1)))
+advance free h walked None = (walked.0, unwrap_or (option_map (λ o. walked.1 ++ AnObject o ∷ []) (left_of_realm walked.1)) walked.1)
 
 -- the items in the order in which they enter the queue
 abbrev pub queue_from : ℕ → FreeNames → Heap → Walked → List Item
@@ -102,7 +102,7 @@ is_cell (AnObject o) = false
 is_cell (ACell c) = true
 
 abbrev pub rank : (Item → Bool) → List Item → Item → ℕ
-rank sort queue item = or_value 0 (option_map (λ n. n + 1) (position (is_same_item item) (filter sort queue)))
+rank sort queue item = unwrap_or (option_map (λ n. n + 1) (position (is_same_item item) (filter sort queue))) 0
 
 -- ---- rows
 
@@ -154,13 +154,13 @@ key_position key ps = position (λ (p : Key × Property). is_same_text p.0 key) 
 -- how many of the properties now are the longest front whose keys come in the order of those at the start
 abbrev pub old_count : Properties → Properties → ℕ
 old_count start [] = 0
-old_count start (p ∷ ps) = or_value 0 (option_map (λ n. suc (old_count (drop (suc n) start) ps)) (key_position p.0 start))
+old_count start (p ∷ ps) = unwrap_or (option_map (λ n. suc (old_count (drop (suc n) start) ps)) (key_position p.0 start)) 0
 
 abbrev pub gone_keys : Properties → Properties → List Key
 gone_keys start old = map (λ (p : Key × Property). p.0) (filter (λ (p : Key × Property). not (is_some (lookup p.0 old))) start)
 
 abbrev pub is_changed : Properties → Key × Property → Bool
-is_changed start p = not (or_value false (option_map (is_same_property p.1) (lookup p.0 start)))
+is_changed start p = not (unwrap_or (option_map (is_same_property p.1) (lookup p.0 start)) false)
 
 abbrev pub realm_row : {C : Type 0} → List Item → ObjNo → Bool → Properties → Properties → Properties → Row C
 realm_row queue o fixed start old new =
@@ -171,7 +171,7 @@ differs (RealmRow o false [] [] []) = false
 differs row = true
 
 abbrev pub realm_properties : ObjNo → Properties
-realm_properties o = or_value [] (option_map (λ (state : ObjectState). state.properties) (object_at realm o))
+realm_properties o = unwrap_or (option_map (λ (state : ObjectState). state.properties) (object_at realm o)) []
 
 abbrev pub row_of_realm : {C : Type 0} → List Item → ObjNo → ObjectState → Row C
 row_of_realm queue o now =
@@ -195,8 +195,8 @@ module _ {C : Type 0} (code : FuncNo → Names → C) where
       else NewRow (rank is_new_object queue (AnObject o)) (sort_of free h queue state.class) (listed_value queue (object_or_null state.prototype)) (not state.extensible) (map (listed_property queue) state.properties)
 
   abbrev pub row_of : FreeNames → Heap → List Item → Item → List (Row C)
-  row_of free h queue (AnObject o) = or_value [] (option_map (λ state. object_row free h queue o state ∷ []) (object_at h o))
-  row_of free h queue (ACell c) = CellRow (rank is_cell queue (ACell c)) (listed_value queue (or_value undefined (cell h c))) ∷ []
+  row_of free h queue (AnObject o) = unwrap_or (option_map (λ state. object_row free h queue o state ∷ []) (object_at h o)) []
+  row_of free h queue (ACell c) = CellRow (rank is_cell queue (ACell c)) (listed_value queue (unwrap_or (cell h c) undefined)) ∷ []
 
   -- the rows in the order of the walk, without those of the realm in which nothing differs
   unfoldable pub listing_by : FreeNames → Heap → Ending → List (Row C)

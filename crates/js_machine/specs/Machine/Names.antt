@@ -44,7 +44,7 @@ resolve_name site context name = do
 
 -- 8.7.1: GetValue
 unfoldable pub get_value : Site → Reference → Run Value
-get_value site (NameReference name (InCell c)) = look (λ h. or_value undefined (cell h c))
+get_value site (NameReference name (InCell c)) = look (λ h. unwrap_or (cell h c) undefined)
 get_value site (NameReference name OnGlobal) = get site global name
 get_value site (NameReference name Nowhere) = throw_error ReferenceError
 get_value site (PropertyReference base key) = get_of site base key

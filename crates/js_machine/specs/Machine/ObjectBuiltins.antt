@@ -25,7 +25,7 @@ object_argument (Object o) = give o
 object_argument v = throw_error TypeError
 
 abbrev pub properties_of : ObjNo → Heap → Properties
-properties_of o h = or_value [] (option_map (λ (state : ObjectState). state.properties) (object_at h o))
+properties_of o h = unwrap_or (option_map (λ (state : ObjectState). state.properties) (object_at h o)) []
 
 -- ---- 15.2.4: properties of Object.prototype
 
@@ -54,7 +54,7 @@ property_is_enumerable site this arguments = do
   key ← to_key site.at (argument arguments 0)
   o ← to_object site.at this
   p ← get_own_property site o key
-  give (truth (or_value false (option_map is_enumerable p)))
+  give (truth (unwrap_or (option_map is_enumerable p) false))
 
 -- ---- 15.2.3: properties of Object
 
@@ -197,7 +197,7 @@ restrict site o to p = do
   redefine site o to p.0 now
 
 abbrev pub fix : ObjNo → Heap → Heap
-fix o h = or_value h (option_map (λ (state : ObjectState). set_object o (record state { extensible = false }) h) (object_at h o))
+fix o h = unwrap_or (option_map (λ (state : ObjectState). set_object o (record state { extensible = false }) h) (object_at h o)) h
 
 abbrev pub restrict_all : (Descriptor → Descriptor) → Rule
 restrict_all to site this arguments = do
@@ -232,7 +232,7 @@ is_frozen_property (Data p) = not p.writable && not p.configurable
 is_frozen_property (Accessor p) = not p.configurable
 
 abbrev pub is_extensible_in : ObjNo → Heap → Bool
-is_extensible_in o h = or_value false (option_map (λ (state : ObjectState). state.extensible) (object_at h o))
+is_extensible_in o h = unwrap_or (option_map (λ (state : ObjectState). state.extensible) (object_at h o)) false
 
 -- each own property is a turn, up to the first that fails
 abbrev pub all_pass : Site → (Property → Bool) → Properties → Run Bool

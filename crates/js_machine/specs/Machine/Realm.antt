@@ -153,7 +153,7 @@ realm_count = length owners + length functions
 -- ---- names: that of the owner, a point and the key for a function
 
 abbrev pub owner_name : ObjNo → List ℕ
-owner_name n = or_value [] (option_map (λ (o : Owner). o.name) (slice_get owners n))
+owner_name n = unwrap_or (option_map (λ (o : Owner). o.name) (slice_get owners n)) []
 
 abbrev pub owned_name : Owned → List ℕ
 owned_name f = owner_name f.owner ++ codes "." ++ f.key

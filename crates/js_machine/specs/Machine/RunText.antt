@@ -32,7 +32,7 @@ value_text v = []
 abbrev pub listed_text : ListedValue → List ℕ
 listed_text (Listed v) = value_text v
 listed_text (NewObject n) = codes "#" ++ decimal n
-listed_text (RealmObject o) = or_value [] (realm_name o)
+listed_text (RealmObject o) = unwrap_or (realm_name o) []
 
 -- ---- properties
 
@@ -84,7 +84,7 @@ module _ {C : Type 0} (code_text : C → List ℕ) where
       line (codes "#" ++ decimal n ++ codes " " ++ sort_text sort ++ codes " " ++ listed_text prototype ++ fixed_text fixed) ++ code_lines sort ++ flat_map property_text properties
   row_text (CellRow n v) = line (codes "@" ++ decimal n ++ codes " = " ++ listed_text v)
   row_text (RealmRow o fixed gone others new) =
-      line (or_value [] (realm_name o) ++ fixed_text fixed) ++ flat_map gone_text gone ++ flat_map property_text others ++ flat_map property_text new
+      line (unwrap_or (realm_name o) [] ++ fixed_text fixed) ++ flat_map gone_text gone ++ flat_map property_text others ++ flat_map property_text new
 
   -- the queue is that of the walk by which the rows were listed
   unfoldable pub run_text : List HostEvent → List Item → Ending → List (Row C) → List ℕ

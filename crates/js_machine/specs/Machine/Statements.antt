@@ -155,7 +155,7 @@ own_names seen ps = keys_of (filter (λ (p : Key × Property). is_enumerable p.1
 
 abbrev pub names_along : ℕ → Heap → List Key → Option ObjNo → List Key
 names_along zero h seen o = []
-names_along (suc n) h seen o = or_value [] (option_map (λ (state : ObjectState). own_names seen state.properties ++ names_along n h (seen ++ keys_of state.properties) state.prototype) (option_and_then (object_at h) o))
+names_along (suc n) h seen o = unwrap_or (option_map (λ (state : ObjectState). own_names seen state.properties ++ names_along n h (seen ++ keys_of state.properties) state.prototype) (option_and_then (object_at h) o)) []
 
 unfoldable pub enumerated : ObjNo → Heap → List Key
 enumerated o h = names_along (length h.objects) h [] (Some o)

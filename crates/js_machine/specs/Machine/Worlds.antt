@@ -11,7 +11,7 @@ use Rattle.js_machine.specs.Machine.Walks.{World, is_of_kind}
 
 -- an input that is taken has a value of its kind
 abbrev pub is_given : World → Mention → Bool
-is_given w (Takes at k name) = or_value false (option_map (is_of_kind k) (lookup name w.inputs))
+is_given w (Takes at k name) = unwrap_or (option_map (is_of_kind k) (lookup name w.inputs)) false
 is_given w _ = true
 
 -- each input of the script, of its functions too, has a value of its kind

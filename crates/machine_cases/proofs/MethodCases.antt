@@ -4,7 +4,7 @@ use Rattle.std.specs.Fmt.{digits}
 use Rattle.js_value.specs.Conversions.{is_same_value}
 use Rattle.plain_heap.specs.Heap.{resolve}
 use Rattle.plain_heap.specs.Methods.{get_property, get, can_put, put, has_property, delete, define_plain, array_index, define_array, define}
-use Rattle.plain_heap.specs.MethodCases.{MethodCases}
+use Rattle.machine_cases.specs.MethodCases.{MethodCases}
 use Rattle.plain_heap.specs.Valid.{is_valid}
 
 pub method_cases : MethodCases

@@ -3,7 +3,7 @@ use Rattle.std.specs.Prelude.{◌≡◌, ℕ, nat_eq, neg_ℤ, pos, Bool, true, 
 use Rattle.js_value.specs.Conversions.{is_same_value}
 use Rattle.js_value.specs.declared.primitive.Primitive.TheVariants as primitive
 use Rattle.plain_heap.specs.Values.{Value, Prim, Object, Absent, undefined, number, text}
-use Rattle.plain_heap.specs.Heap.{Key, Property, Properties, Accessor, Class, Plain, Array, Function, Builtin, ObjectState, Scope, Heap, data_property, resolve}
+use Rattle.plain_heap.specs.Heap.{Key, Property, Properties, Accessor, Class, Plain, Array, Function, Builtin, ObjectState, Heap, data_property, resolve, Environment}
 use Rattle.plain_heap.specs.Methods.{Descriptor, no_fields, value_field, data_fields, Got, GotValue, CallGetter, get, can_put, Putting, Refuse, Define, CallSetter, put, has_property, delete, Defining, Defined, Rejected, BadLength, IfSame, define, array_index, length_key}
 use Rattle.plain_heap.specs.Valid.{is_valid}
 
@@ -26,8 +26,13 @@ fixed_data n = data_property (number n) false false false
 abbrev pub accessor : Option ℕ → Option ℕ → Bool → Property
 accessor get set configurable = Accessor (record { get = get; set = set; enumerable = false; configurable = configurable })
 
+-- where the prototype, if there is one, has none
+abbrev pub depth_below : Option ℕ → ℕ
+depth_below None = 0
+depth_below (Some o) = 1
+
 abbrev pub state : Class → Option ℕ → Bool → Properties → ObjectState
-state class prototype extensible properties = record { class = class; prototype = prototype; extensible = extensible; properties = properties }
+state class prototype extensible properties = record { class = class; prototype = prototype; depth = depth_below prototype; extensible = extensible; properties = properties }
 
 abbrev pub plain : Properties → ObjectState
 plain properties = state Plain None true properties
@@ -75,7 +80,6 @@ family = record {
       ∷ state Plain None false []
       ∷ [];
   cells = [];
-  scopes = [];
 }
 
 abbrev pub get_rows : List (ℕ × Key × Got)
@@ -316,17 +320,14 @@ array_rows =
 
 -- ---- valid heaps
 
+abbrev pub with_cells : List ObjectState → List Value → Heap
+with_cells objects cells = record { objects = objects; cells = cells }
+
 abbrev pub with_objects : List ObjectState → Heap
-with_objects objects = record { objects = objects; cells = []; scopes = [] }
+with_objects objects = with_cells objects []
 
-abbrev pub with_scopes : List ObjectState → List Value → List Scope → Heap
-with_scopes objects cells scopes = record { objects = objects; cells = cells; scopes = scopes }
-
-abbrev pub scope : Option ℕ → List (Key × ℕ) → Scope
-scope outer names = record { outer = outer; names = names }
-
-abbrev pub function : Option ℕ → ObjectState
-function inside = state (Function (record { 0 = 0 }) inside) None true []
+abbrev pub function : Environment → ObjectState
+function names = state (Function (record { 0 = 0 }) names false) None true []
 
 abbrev pub valid_rows : List (Heap × Bool)
 valid_rows =
@@ -336,6 +337,9 @@ valid_rows =
     ∷ (with_objects (state Plain (Some 1) true [] ∷ state Plain (Some 0) true [] ∷ []), false)
     -- a prototype with a higher number
     ∷ (with_objects (state Plain (Some 1) true [] ∷ plain [] ∷ []), true)
+    -- depths that are too low and too high
+    ∷ (with_objects (record (state Plain (Some 1) true []) { depth = 0 } ∷ plain [] ∷ []), false)
+    ∷ (with_objects (record (plain []) { depth = 1 } ∷ []), false)
     -- numbers of no object
     ∷ (with_objects (state Plain (Some 1) true [] ∷ []), false)
     ∷ (with_objects (plain ((a, data_property (Object 1) true true true) ∷ []) ∷ []), false)
@@ -348,52 +352,33 @@ valid_rows =
     ∷ (with_objects (array 1 true two_elements ∷ []), false)
     ∷ (with_objects (state Array None true ((length_key, data_property (number 0) true true false) ∷ []) ∷ []), false)
     -- cells: of values, of an object, of one that isn't there, and of a built-in that is left out, which a property may have
-    ∷ (with_scopes [] (number 1 ∷ text a ∷ []) [], true)
-    ∷ (with_scopes (plain [] ∷ []) (Object 0 ∷ []) [], true)
-    ∷ (with_scopes (plain [] ∷ []) (Object 1 ∷ []) [], false)
-    ∷ (with_scopes [] (Absent ∷ []) [], false)
+    ∷ (with_cells [] (number 1 ∷ text a ∷ []), true)
+    ∷ (with_cells (plain [] ∷ []) (Object 0 ∷ []), true)
+    ∷ (with_cells (plain [] ∷ []) (Object 1 ∷ []), false)
+    ∷ (with_cells [] (Absent ∷ []), false)
     ∷ (with_objects (plain ((a, data_property Absent true true true) ∷ []) ∷ []), true)
-    -- scopes: with a cell, with one that isn't there, and with a name twice
-    ∷ (with_scopes [] (number 1 ∷ []) (scope None ((a, 0) ∷ []) ∷ []), true)
-    ∷ (with_scopes [] (number 1 ∷ []) (scope None ((a, 1) ∷ []) ∷ []), false)
-    ∷ (with_scopes [] (number 1 ∷ []) (scope None ((a, 0) ∷ (a, 0) ∷ []) ∷ []), true)
-    -- scopes inside one with a lower and with a higher number, and inside one that isn't there
-    ∷ (with_scopes [] [] (scope None [] ∷ scope (Some 0) [] ∷ []), true)
-    ∷ (with_scopes [] [] (scope (Some 1) [] ∷ scope None [] ∷ []), true)
-    ∷ (with_scopes [] [] (scope None [] ∷ scope (Some 2) [] ∷ []), false)
-    -- a scope inside itself, and two inside each other
-    ∷ (with_scopes [] [] (scope (Some 0) [] ∷ []), false)
-    ∷ (with_scopes [] [] (scope (Some 1) [] ∷ scope (Some 0) [] ∷ []), false)
-    -- functions made in global code, in a scope, and in one that isn't there
-    ∷ (with_scopes (function None ∷ []) [] [], true)
-    ∷ (with_scopes (function (Some 0) ∷ []) [] (scope None [] ∷ []), true)
-    ∷ (with_scopes (function (Some 1) ∷ []) [] (scope None [] ∷ []), false)
+    -- functions made in global code, in an environment with a cell, with one that isn't there, and with a name twice
+    ∷ (with_cells (function [] ∷ []) [], true)
+    ∷ (with_cells (function ((a, 0) ∷ []) ∷ []) (number 1 ∷ []), true)
+    ∷ (with_cells (function ((b, 0) ∷ (a, 1) ∷ []) ∷ []) (number 1 ∷ []), false)
+    ∷ (with_cells (function ((a, 0) ∷ (a, 0) ∷ []) ∷ []) (number 1 ∷ []), true)
     ∷ []
 
--- ---- 10.2.2.1: names along scopes
+-- ---- 10.2.2.1: names in environments
 
--- Scope 0 is outermost, with `a` and `b`; scope 1 in it has `a` as well; scope 2 in that one has `c` twice.
-abbrev pub nested : Heap
-nested = with_scopes [] (number 0 ∷ number 1 ∷ number 2 ∷ number 3 ∷ number 4 ∷ []) (scope None ((a, 0) ∷ (b, 1) ∷ []) ∷ scope (Some 0) ((a, 2) ∷ []) ∷ scope (Some 1) ((c, 3) ∷ (c, 4) ∷ []) ∷ [])
+-- code that binds `c` twice, in code that binds `a`, in code that binds `a` and `b`
+abbrev pub nested : Environment
+nested = (c, 3) ∷ (c, 4) ∷ (a, 2) ∷ (a, 0) ∷ (b, 1) ∷ []
 
-abbrev pub resolve_rows : List (Option ℕ × Key × Option ℕ)
+abbrev pub resolve_rows : List (Environment × Key × Option ℕ)
 resolve_rows =
-    -- in global code no scope binds a name
-    (None, a, None)
-    -- the scope itself
-    ∷ (Some 0, a, Some 0)
-    ∷ (Some 0, b, Some 1)
-    ∷ (Some 0, c, None)
-    -- one around it, unless a nearer one has the name
-    ∷ (Some 1, a, Some 2)
-    ∷ (Some 1, b, Some 1)
-    ∷ (Some 1, c, None)
-    ∷ (Some 2, a, Some 2)
-    ∷ (Some 2, b, Some 1)
-    -- the first of two
-    ∷ (Some 2, c, Some 3)
-    -- none of them
-    ∷ (Some 2, codes "d", None)
+    -- in global code nothing is bound
+    ([], a, None)
+    -- by the code itself, and by code around it, unless nearer code binds the name
+    ∷ (nested, c, Some 3)
+    ∷ (nested, a, Some 2)
+    ∷ (nested, b, Some 1)
+    ∷ (nested, codes "d", None)
     ∷ []
 
 pub record MethodCases : Type 0 where
@@ -406,4 +391,4 @@ pub record MethodCases : Type 0 where
   pub defines : map answer_of define_rows ≡ map (λ row. row.3) define_rows
   pub arrays : map answer_of array_rows ≡ map (λ row. row.3) array_rows
   pub valid : map (λ row. is_valid row.0) valid_rows ≡ map (λ row. row.1) valid_rows
-  pub resolves : map (λ row. resolve nested row.0 row.1) resolve_rows ≡ map (λ row. row.2) resolve_rows
+  pub resolves : map (λ row. resolve row.0 row.1) resolve_rows ≡ map (λ row. row.2) resolve_rows
