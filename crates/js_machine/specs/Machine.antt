@@ -1,8 +1,9 @@
-pub mod Trees
-pub mod Numbers
+pub mod Events
+pub mod RealmObjects
 pub mod Operators
+pub mod Creating
 pub mod Objects
-pub mod Names
+pub mod References
 pub mod Expressions
 pub mod Statements
 pub mod Functions

@@ -1,5 +1,5 @@
 -- Expressions (11): one rule for each form, in the order of the steps of its clause.
-use Rattle.std.specs.Prelude.{ℕ, ◌+◌, Bool, true, false, if◌then◌else◌, List, [], ◌∷◌, length, slice_get, codes, Option, Some, None, Result}
+use Rattle.std.specs.Prelude.{ℕ, ◌+◌, Bool, true, false, if◌then◌else◌, List, [], ◌∷◌, codes, Option, Some, None, Result}
 use Rattle.std.specs.Fmt.{decimal}
 use Rattle.std.specs.List.{list_any}
 use Rattle.js_value.specs.Operators.{binary_row, unary_row}
@@ -22,29 +22,29 @@ use Rattle.js_tree.specs.declared.expression.LogicOp.TheVariants as logic
 use Rattle.js_tree.specs.declared.expression.StepOp.{StepOp}
 use Rattle.js_tree.specs.declared.expression.StepOp.TheVariants as stepping
 use Rattle.js_tree.specs.declared.statement.Func.{Func}
-use Rattle.js_tree.specs.declared.statement.Name.{Name}
 use Rattle.js_tree.specs.declared.statement.Stmt.{Stmt}
-use Rattle.plain_heap.specs.Values.{Value, Prim, Object, ObjNo, ScopeNo, undefined, number, truth}
-use Rattle.plain_heap.specs.Heap.{Key, Heap, new_cell, new_scope, set_cell, is_function}
+use Rattle.plain_heap.specs.Values.{Value, Prim, Object, ObjNo, undefined, number, truth}
+use Rattle.plain_heap.specs.Heap.{Key, Heap, is_function}
 use Rattle.plain_heap.specs.Methods.{Descriptor, no_fields, value_field, length_key}
-use Rattle.js_machine.specs.Machine.Names.{Context, Reference, NameReference, PropertyReference, Nowhere, resolve_name, get_value, put_value}
-use Rattle.js_machine.specs.Machine.Numbers.{TypeError, ReferenceError}
-use Rattle.js_machine.specs.Machine.Objects.{Site, make_plain, make_array, make_function, throw_error, get, define, make_property, has_property, delete_of, check_base, is_prototype_of}
+use Rattle.js_machine.specs.Machine.References.{Context, Reference, NameReference, PropertyReference, Nowhere, resolve_name, get_value, put_value}
+use Rattle.js_machine.specs.Machine.RealmObjects.{TypeError, ReferenceError}
+use Rattle.js_machine.specs.Machine.Objects.{Site, make_plain, make_array, throw_error, get, define, make_property, has_property, delete_of, check_base, is_prototype_of}
 use Rattle.js_machine.specs.Machine.Operators.{is_object, test, to_key, operate, operate_one}
-use Rattle.js_machine.specs.Machine.Trees.{Run, ◌>>=◌, give, leave, change, look, take_input, call_host, choose, in_turn, each}
+use Rattle.js_machine.specs.Machine.Events.{◌>>=◌, Run, give, leave, look, take_input, call_host, choose, in_turn, each, make, throw}
+use Rattle.js_machine.specs.Machine.Creating.{function_expression, function}
 
--- how a statement ends, throws aside (8.9)
-pub data Flow : Type 0 where
-  Normal : Flow
-  Broke : Flow
-  Continued : Flow
-  Returned : Value → Flow
+-- 8.9: how a statement ends, throws aside
+pub data Completion : Type 0 where
+  Normal : Completion
+  Break : Completion
+  Continue : Completion
+  Return : Value → Completion
 
 -- how the parts of a node are evaluated, and how values are called (13.2.1) and constructed from (13.2.2)
 pub record Ev : Type 0 where
   pub expr : Context → Expr → Run Value
   pub reference : Context → Expr → Run Reference
-  pub stmt : Context → Stmt → Run Flow
+  pub stmt : Context → Stmt → Run Completion
   pub call : Place → Value → Value → List Value → Run Value
   pub construct : Place → Value → List Value → Run Value
   -- the functions that the code names by their positions
@@ -57,50 +57,14 @@ site ev at = record { at = at; call = ev.call at }
 
 -- ---- functions as values (13)
 
-abbrev pub parameters_of : Option Func → ℕ
-parameters_of None = 0
-parameters_of (Some f) = length f.params
-
-abbrev pub function : List Func → FuncNo → Option ScopeNo → Run ObjNo
-function functions f scope = make_function f scope (parameters_of (slice_get functions f.0))
-
--- the number of the new scope
-abbrev pub make_scope : Option ScopeNo → List (List ℕ × ℕ) → Run ScopeNo
-make_scope outer names = do
-  s ← look (λ h. length h.scopes)
-  _ ← change (new_scope outer names)
-  give s
-
-abbrev pub make_cell : Value → Run ℕ
-make_cell v = do
-  c ← look (λ h. length h.cells)
-  _ ← change (new_cell v)
-  give c
-
--- 13: a function expression with a name has it in a scope of its own
-abbrev pub own_named : Ev → FuncNo → Option ScopeNo → List ℕ → Run ObjNo
-own_named ev f scope name = do
-  c ← make_cell undefined
-  s ← make_scope scope ((name, c) ∷ [])
-  o ← function ev.functions f (Some s)
-  _ ← change (set_cell c (Object o))
-  give o
-
-abbrev pub named : Ev → FuncNo → Option ScopeNo → Option Name → Run ObjNo
-named ev f scope None = function ev.functions f scope
-named ev f scope (Some name) = own_named ev f scope name.text
-
-abbrev pub name_of : Option Func → Option Name
-name_of None = None
-name_of (Some f) = f.name
-
-abbrev pub object : Run ObjNo → Run Value
-object m = do
-  o ← m
+unfoldable pub function_rule : Ev → Context → FuncNo → Run Value
+function_rule ev context f = do
+  o ← make (function_expression ev.functions f context.environment context.strict)
   give (Object o)
 
-unfoldable pub function_rule : Ev → Context → FuncNo → Run Value
-function_rule ev context f = object (named ev f context.scope (name_of (slice_get ev.functions f.0)))
+-- a getter or a setter of an initialiser has no name
+abbrev pub accessor_function : Ev → Context → FuncNo → Run ObjNo
+accessor_function ev context f = make (function ev.functions f context.environment context.strict)
 
 -- ---- 11.1: primary expressions
 
@@ -134,10 +98,10 @@ field_rule ev context at o (Field-F.Value key_at key e) = do
   v ← ev.expr context e
   make_property (site ev at) o key v
 field_rule ev context at o (Field-F.Getter key_at key f) = do
-  g ← function ev.functions f context.scope
+  g ← accessor_function ev context f
   define (site ev at) o key (accessor_fields (Some (Some g)) None) false
 field_rule ev context at o (Field-F.Setter key_at key f) = do
-  g ← function ev.functions f context.scope
+  g ← accessor_function ev context f
   define (site ev at) o key (accessor_fields None (Some (Some g))) false
 
 unfoldable pub object_rule : Ev → Context → Place → List Field → Run Value
@@ -153,7 +117,7 @@ unfoldable pub member_reference : Ev → Context → Place → Expr → Key → 
 member_reference ev context at object key = do
   base ← ev.expr context object
   _ ← check_base at base
-  give (PropertyReference base key)
+  give (PropertyReference base key context.strict)
 
 unfoldable pub index_reference : Ev → Context → Place → Expr → Expr → Run Reference
 index_reference ev context at object index = do
@@ -161,7 +125,7 @@ index_reference ev context at object index = do
   name ← ev.expr context index
   _ ← check_base at base
   key ← to_key at name
-  give (PropertyReference base key)
+  give (PropertyReference base key context.strict)
 
 unfoldable pub member_rule : Ev → Context → Place → Expr → Key → Run Value
 member_rule ev context at object key = do
@@ -185,8 +149,8 @@ call_checked ev at f this arguments = do
 
 -- step 6: the `this` of a call
 abbrev pub this_of : Reference → Value
-this_of (NameReference name b) = undefined
-this_of (PropertyReference base key) = base
+this_of (NameReference name b strict) = undefined
+this_of (PropertyReference base key strict) = base
 
 -- a callee that is a name or a member, and one that is neither
 abbrev pub call_reference : Ev → Context → Place → Expr → List Expr → Run Value
@@ -286,11 +250,11 @@ binary_rule ev context at op a b = do
 -- ---- 11.4: operators with one operand
 
 abbrev pub delete_reference : Site → Reference → Run Value
-delete_reference site (PropertyReference base key) = do
-  done ← delete_of site base key
+delete_reference site (PropertyReference base key strict) = do
+  done ← delete_of site base key strict
   give (truth done)
 -- a name can't be deleted in any text that is read
-delete_reference site (NameReference name b) = give (truth false)
+delete_reference site (NameReference name b strict) = give (truth false)
 
 -- 11.4.1
 unfoldable pub delete_rule : Ev → Context → Place → Expr → Run Value
@@ -304,7 +268,7 @@ delete_rule ev context at a =
 
 -- 11.4.3, step 2: a name that is bound to nothing has a type all the same
 abbrev pub value_or_undefined : Site → Reference → Run Value
-value_or_undefined site (NameReference name Nowhere) = give undefined
+value_or_undefined site (NameReference name Nowhere strict) = give undefined
 value_or_undefined site r = get_value site r
 
 abbrev pub is_name : {A B C : Type 0} → ExprForm-F A B C → Bool
@@ -397,10 +361,21 @@ comma_rule ev context a b = do
 
 -- ---- host calls, this project's own: all arguments are evaluated before one is looked at
 
+-- an answer that is thrown is thrown by the call
+abbrev pub answered : Place → Value × Value → Run Value
+answered at answer = do
+  threw ← test at answer.1
+  choose threw (throw answer.0) (give answer.0)
+
+abbrev pub asked_host : Place → Kind → List ℕ → List Value → Run Value
+asked_host at kind name arguments = do
+  answer ← call_host at kind name arguments
+  answered at answer
+
 unfoldable pub host_rule : Ev → Context → Place → Kind → List ℕ → List Expr → Run Value
 host_rule ev context at kind name arguments = do
   values ← each (ev.expr context) arguments
-  if list_any is_object values then leave HostArgument at else call_host at kind name values
+  if list_any is_object values then leave HostArgument at else asked_host at kind name values
 
 -- ---- all forms
 

@@ -3,7 +3,7 @@ use Rattle.std.specs.Prelude.{◌≡◌, ℕ, ◌+◌, List}
 use Rattle.js_value.specs.declared.place.Place.{Place}
 use Rattle.js_value.specs.declared.why.Why.{Why}
 use Rattle.plain_heap.specs.Heap.{Heap}
-use Rattle.js_machine.specs.Machine.Trees.{Tree}
+use Rattle.js_machine.specs.Machine.Events.{Tree}
 use Rattle.js_machine.specs.Machine.Walks.{World, HostEvent, Ending, Ended, Left, walk}
 
 -- more steps don't change a run that ended or left

@@ -1,15 +1,15 @@
 -- The listing of a heap: all that a script can reach, numbered by one walk, and when two runs agree.
-use Rattle.std.specs.Prelude.{◌≡◌, ℕ, zero, suc, ◌+◌, ◌&&◌, nat_eq, nat_le, nat_lt, Bool, true, false, not, if◌then◌else◌, is_some, List, [], ◌∷◌, ◌++◌, drop, take, length, map, slice_get, Option, Some, None}
+use Rattle.std.specs.Prelude.{◌≡◌, ℕ, zero, suc, ◌+◌, ◌&&◌, nat_eq, nat_le, nat_lt, Bool, true, false, not, if◌then◌else◌, is_some, List, [], ◌∷◌, ◌++◌, drop, take, length, map, slice_get, Option, Some, None, unwrap_or, option_to_list}
 use Rattle.std.specs.List.{filter, flat_map, list_any, position, range_with_len}
 use Rattle.std.specs.Option.{option_map}
 use Rattle.js_value.specs.Conversions.{is_same_text, is_same_truth}
 use Rattle.js_value.specs.declared.place.FuncNo.{FuncNo}
 use Rattle.js_tree.specs.Mentions.{Names, free_names}
 use Rattle.js_tree.specs.declared.statement.Script.{Script}
-use Rattle.plain_heap.specs.Heap.{Key, Property, Properties, Data, Accessor, Class, Array, Function, ObjectState, Heap, cell, lookup, object_at, resolve}
-use Rattle.plain_heap.specs.Methods.{is_same_function, or_value}
-use Rattle.plain_heap.specs.Values.{Value, Object, ObjNo, CellNo, ScopeNo, undefined, object_or_null, object_or_undefined}
-use Rattle.js_machine.specs.Machine.Numbers.{global}
+use Rattle.plain_heap.specs.Heap.{Key, Property, Properties, Data, Accessor, Class, Array, Function, ObjectState, Heap, cell, lookup, object_at, resolve, Environment}
+use Rattle.plain_heap.specs.Methods.{is_same_function}
+use Rattle.plain_heap.specs.Values.{Value, Object, ObjNo, CellNo, undefined, object_or_null, object_or_undefined}
+use Rattle.js_machine.specs.Machine.RealmObjects.{global}
 use Rattle.js_machine.specs.Machine.Operators.{is_same}
 use Rattle.js_machine.specs.Machine.Realm.{realm, realm_count}
 use Rattle.js_machine.specs.Machine.Walks.{Outcome, Ended, Ending, Normally, Thrown}
@@ -38,23 +38,23 @@ in_property (Accessor p) = in_value (object_or_undefined p.get) ++ in_value (obj
 abbrev pub FreeNames : Type 0
 FreeNames = FuncNo → Names
 
--- the free names of a function that a scope binds, in the order in which they come first
-abbrev pub captured : FreeNames → Heap → FuncNo → Option ScopeNo → Names
-captured free h f scope = filter (λ name. is_some (resolve h scope name)) (free f)
+-- the free names of a function that its environment binds, in the order in which they come first
+abbrev pub captured : FreeNames → FuncNo → Environment → Names
+captured free f environment = filter (λ name. is_some (resolve environment name)) (free f)
 
-abbrev pub in_cells : Heap → Option ScopeNo → Names → List CellNo
-in_cells h scope names = flat_map (λ name. unwrap_or (option_map (λ c. c ∷ []) (resolve h scope name)) []) names
+abbrev pub in_cells : Environment → Names → List CellNo
+in_cells environment names = flat_map (λ name. option_to_list (resolve environment name)) names
 
-abbrev pub in_class : FreeNames → Heap → Class → List Item
-in_class free h (Function f scope) = map (λ c. ACell c) (in_cells h scope (captured free h f scope))
-in_class free h class = []
+abbrev pub in_class : FreeNames → Class → List Item
+in_class free (Function f environment strict) = map (λ c. ACell c) (in_cells environment (captured free f environment))
+in_class free class = []
 
 -- what an item leads to, in order: of an object its prototype, its properties, and the cells that it has captured
-abbrev pub in_object : FreeNames → Heap → ObjectState → List Item
-in_object free h o = in_value (object_or_null o.prototype) ++ flat_map (λ (p : Key × Property). in_property p.1) o.properties ++ in_class free h o.class
+abbrev pub in_object : FreeNames → ObjectState → List Item
+in_object free o = in_value (object_or_null o.prototype) ++ flat_map (λ (p : Key × Property). in_property p.1) o.properties ++ in_class free o.class
 
 abbrev pub next_of : FreeNames → Heap → Item → List Item
-next_of free h (AnObject o) = unwrap_or (option_map (in_object free h) (object_at h o)) []
+next_of free h (AnObject o) = unwrap_or (option_map (in_object free) (object_at h o)) []
 next_of free h (ACell c) = in_value (unwrap_or (cell h c) undefined)
 
 abbrev pub has_item : List Item → Item → Bool
@@ -118,11 +118,11 @@ pub data ListedProperty : Type 0 where
   -- with its key, its getter and its setter, and whether it is enumerable and configurable
   AccessorLine : Key → ListedValue → ListedValue → Bool → Bool → ListedProperty
 
--- a function has its code, and the numbers of the cells that it has captured
+-- a function has its code, whether it is strict, and the numbers of the cells that it has captured
 pub data Sort (C : Type 0) : Type 0 where
   PlainObject : Sort C
   ArrayObject : Sort C
-  FunctionObject : C → List ℕ → Sort C
+  FunctionObject : C → Bool → List ℕ → Sort C
 
 pub data Row (C : Type 0) : Type 0 where
   -- with its number, its prototype, whether it can't be extended, and its properties
@@ -182,20 +182,20 @@ row_of_realm queue o now =
 -- ---- the listing, with the code of a function as it is given for the free names that a scope binds
 
 module _ {C : Type 0} (code : FuncNo → Names → C) where
-  abbrev pub sort_of : FreeNames → Heap → List Item → Class → Sort C
-  sort_of free h queue Array = ArrayObject
-  sort_of free h queue (Function f scope) =
-      let names = captured free h f scope in
-      FunctionObject (code f names) (map (λ c. rank is_cell queue (ACell c)) (in_cells h scope names))
-  sort_of free h queue class = PlainObject
+  abbrev pub sort_of : FreeNames → List Item → Class → Sort C
+  sort_of free queue Array = ArrayObject
+  sort_of free queue (Function f environment strict) =
+      let names = captured free f environment in
+      FunctionObject (code f names) strict (map (λ c. rank is_cell queue (ACell c)) (in_cells environment names))
+  sort_of free queue class = PlainObject
 
-  abbrev pub object_row : FreeNames → Heap → List Item → ObjNo → ObjectState → Row C
-  object_row free h queue o state =
+  abbrev pub object_row : FreeNames → List Item → ObjNo → ObjectState → Row C
+  object_row free queue o state =
       if nat_lt o realm_count then row_of_realm queue o state
-      else NewRow (rank is_new_object queue (AnObject o)) (sort_of free h queue state.class) (listed_value queue (object_or_null state.prototype)) (not state.extensible) (map (listed_property queue) state.properties)
+      else NewRow (rank is_new_object queue (AnObject o)) (sort_of free queue state.class) (listed_value queue (object_or_null state.prototype)) (not state.extensible) (map (listed_property queue) state.properties)
 
   abbrev pub row_of : FreeNames → Heap → List Item → Item → List (Row C)
-  row_of free h queue (AnObject o) = unwrap_or (option_map (λ state. object_row free h queue o state ∷ []) (object_at h o)) []
+  row_of free h queue (AnObject o) = unwrap_or (option_map (λ state. object_row free queue o state ∷ []) (object_at h o)) []
   row_of free h queue (ACell c) = CellRow (rank is_cell queue (ACell c)) (listed_value queue (unwrap_or (cell h c) undefined)) ∷ []
 
   -- the rows in the order of the walk, without those of the realm in which nothing differs

@@ -1,19 +1,19 @@
 -- The built-ins of objects, functions and errors (15.2, 15.3, 15.11), each by the numbered steps of its clause.
-use Rattle.std.specs.Prelude.{ℕ, zero, suc, ◌+◌, ◌&&◌, unsigned_abs, Bool, true, false, not, List, [], ◌∷◌, drop, length, codes, Option, Some, None, is_some}
+use Rattle.std.specs.Prelude.{◌++◌, ℕ, zero, suc, ◌+◌, ◌&&◌, unsigned_abs, Bool, true, false, not, List, [], ◌∷◌, drop, codes, Option, Some, None, is_some, unwrap_or}
 use Rattle.std.specs.Fmt.{decimal}
 use Rattle.std.specs.Option.{option_map}
 use Rattle.js_value.specs.declared.place.Place.{Place}
 use Rattle.js_value.specs.declared.primitive.Primitive.TheVariants as primitive
 use Rattle.js_value.specs.declared.why.Why.TheVariants.{BuiltinArgument}
 use Rattle.plain_heap.specs.Values.{Value, Prim, Object, ObjNo, undefined, text, truth, object_or_null, object_or_undefined}
-use Rattle.plain_heap.specs.Heap.{Key, Property, Properties, Data, Accessor, Plain, Heap, ObjectState, is_configurable, is_enumerable, is_function, object_at, set_object, add_object}
-use Rattle.plain_heap.specs.Methods.{Descriptor, no_fields, data_fields, length_key, or_value, is_accessor, is_data}
+use Rattle.plain_heap.specs.Heap.{Key, Property, Properties, Data, Accessor, Plain, Heap, ObjectState, is_configurable, is_enumerable, is_function, object_at, set_object, make_object}
+use Rattle.plain_heap.specs.Methods.{Descriptor, no_fields, data_fields, length_key, is_accessor, is_data}
 use Rattle.js_machine.specs.Machine.Expressions.{is_callable}
-use Rattle.js_machine.specs.Machine.Functions.{argument}
-use Rattle.js_machine.specs.Machine.Numbers.{TypeError}
-use Rattle.js_machine.specs.Machine.Objects.{Site, make_plain, make_array, make_object, throw_error, present, get, define, make_property, get_own_property, has_property, prototype_of, is_prototype_of, to_object}
+use Rattle.js_machine.specs.Machine.RealmObjects.{TypeError}
+use Rattle.js_machine.specs.Machine.Objects.{Site, make_plain, make_array, throw_error, present, get, define, make_property, get_own_property, has_property, prototype_of, is_prototype_of, to_object, make_with}
 use Rattle.js_machine.specs.Machine.Operators.{test, to_key, to_string, to_list_length}
-use Rattle.js_machine.specs.Machine.Trees.{Run, ◌>>=◌, give, leave, change, look, turn, choose, in_turn}
+use Rattle.js_machine.specs.Machine.Events.{◌>>=◌, Run, give, leave, change, look, turn, choose, in_turn, make}
+use Rattle.js_machine.specs.Machine.Creating.{argument}
 
 -- what a built-in does when it is called, with its `this` and its arguments
 abbrev pub Rule : Type 0
@@ -102,26 +102,26 @@ abbrev pub no_properties : Place → Value → Run (Unit {0})
 no_properties at (Prim primitive.Undefined) = give tt
 no_properties at v = leave BuiltinArgument at
 
-abbrev pub make_with : Option ObjNo → Run ObjNo
-make_with prototype = do
-  o ← look (λ h. length h.objects)
-  _ ← change (add_object (record { class = Plain; prototype = prototype; extensible = true; properties = [] }))
-  give o
-
 unfoldable pub create : Rule
 create site this arguments = do
   prototype ← prototype_argument (argument arguments 0)
   _ ← no_properties site.at (argument arguments 1)
-  o ← make_with prototype
+  o ← make (make_object Plain prototype)
   give (Object o)
 
 -- 8.10.5: ToPropertyDescriptor. A field that the object hasn't is absent.
+abbrev pub field_got : Value → Run (Option Value)
+field_got v = give (Some v)
+
+abbrev pub field_there : Site → ObjNo → Key → Run (Option Value)
+field_there site o key = do
+  v ← get site o key
+  field_got v
+
 abbrev pub field : Site → ObjNo → Key → Run (Option Value)
 field site o key = do
   there ← has_property site o key
-  choose there (do
-    v ← get site o key
-    give (Some v)) (give None)
+  choose there (field_there site o key) (give None)
 
 abbrev pub tested : Site → Option Value → Run (Option Bool)
 tested site None = give None
@@ -152,25 +152,53 @@ accessor_field site o key = do
 abbrev pub checked : Descriptor → Run Descriptor
 checked d = choose (is_accessor d && is_data d) (throw_error TypeError) (give d)
 
+-- the fields so far, and the one that was taken last
+abbrev pub set_taken : Descriptor → Option (Option ObjNo) → Run Descriptor
+set_taken d set = checked (record d { set = set })
+
+abbrev pub get_taken : Site → ObjNo → Descriptor → Option (Option ObjNo) → Run Descriptor
+get_taken site o d get = do
+  set ← accessor_field site o (codes "set")
+  set_taken (record d { get = get }) set
+
+abbrev pub writable_taken : Site → ObjNo → Descriptor → Option Bool → Run Descriptor
+writable_taken site o d writable = do
+  get ← accessor_field site o (codes "get")
+  get_taken site o (record d { writable = writable }) get
+
+abbrev pub value_taken : Site → ObjNo → Descriptor → Option Value → Run Descriptor
+value_taken site o d value = do
+  writable ← flag site o (codes "writable")
+  writable_taken site o (record d { value = value }) writable
+
+abbrev pub configurable_taken : Site → ObjNo → Descriptor → Option Bool → Run Descriptor
+configurable_taken site o d configurable = do
+  value ← field site o (codes "value")
+  value_taken site o (record d { configurable = configurable }) value
+
+abbrev pub enumerable_taken : Site → ObjNo → Option Bool → Run Descriptor
+enumerable_taken site o enumerable = do
+  configurable ← flag site o (codes "configurable")
+  configurable_taken site o (record no_fields { enumerable = enumerable }) configurable
+
 unfoldable pub to_descriptor : Site → Value → Run Descriptor
 to_descriptor site attributes = do
   o ← object_argument attributes
   enumerable ← flag site o (codes "enumerable")
-  configurable ← flag site o (codes "configurable")
-  value ← field site o (codes "value")
-  writable ← flag site o (codes "writable")
-  get ← accessor_field site o (codes "get")
-  set ← accessor_field site o (codes "set")
-  checked (record { value = value; writable = writable; get = get; set = set; enumerable = enumerable; configurable = configurable })
+  enumerable_taken site o enumerable
 
 -- 15.2.3.6
+abbrev pub define_taken : Site → ObjNo → Key → Descriptor → Run Value
+define_taken site o key d = do
+  _ ← define site o key d true
+  give (Object o)
+
 unfoldable pub define_property : Rule
 define_property site this arguments = do
   o ← object_argument (argument arguments 0)
   key ← to_key site.at (argument arguments 1)
   d ← to_descriptor site (argument arguments 2)
-  _ ← define site o key d true
-  give (Object o)
+  define_taken site o key d
 
 -- a property as a descriptor with all its fields
 abbrev pub all_fields : Property → Descriptor
@@ -293,14 +321,19 @@ call site this arguments = do
   callable ← look (is_callable this)
   choose callable (site.call this (argument arguments 0) (drop 1 arguments)) (throw_error TypeError)
 
--- 15.3.4.3, steps 6 to 8: the items from a position on, of which so many are left; each is a turn
-abbrev pub items_from : Site → ObjNo → ℕ → ℕ → Run (List Value)
-items_from site o zero n = give []
-items_from site o (suc left) n = do
+-- 15.3.4.3, steps 6 to 8: the items from a position on, of which so many are left, behind those so far; each is a turn
+abbrev pub items_from : Site → ObjNo → ℕ → ℕ → List Value → Run (List Value)
+items_from site o zero n so_far = give so_far
+items_from site o (suc left) n so_far = do
   _ ← turn site.at
   v ← get site o (decimal n)
-  vs ← items_from site o left (n + 1)
-  give (v ∷ vs)
+  items_from site o left (n + 1) (so_far ++ (v ∷ []))
+
+-- steps 4 and 5
+abbrev pub items_got : Site → ObjNo → Value → Run (List Value)
+items_got site o l = do
+  n ← to_list_length site.at l
+  items_from site o (unsigned_abs n) 0 []
 
 -- steps 2 to 5
 abbrev pub items : Site → Value → Run (List Value)
@@ -309,15 +342,21 @@ items site (Prim primitive.Null) = give []
 items site v = do
   o ← object_argument v
   l ← get site o length_key
-  n ← to_list_length site.at l
-  items_from site o (unsigned_abs n) 0
+  items_got site o l
+
+-- step 9
+abbrev pub apply_to : Site → Value → Value → List Value → Run Value
+apply_to site f this items = site.call f this items
+
+abbrev pub apply_callable : Site → Value → List Value → Run Value
+apply_callable site f arguments = do
+  vs ← items site (argument arguments 1)
+  apply_to site f (argument arguments 0) vs
 
 unfoldable pub apply : Rule
 apply site this arguments = do
   callable ← look (is_callable this)
-  choose callable (do
-    vs ← items site (argument arguments 1)
-    site.call this (argument arguments 0) vs) (throw_error TypeError)
+  choose callable (apply_callable site this arguments) (throw_error TypeError)
 
 -- ---- 15.11: errors
 
@@ -331,6 +370,6 @@ with_message site o v = do
 -- with the prototype that the constructor had from the start
 unfoldable pub make_error : ObjNo → Rule
 make_error prototype site this arguments = do
-  o ← make_object Plain prototype
+  o ← make_with Plain prototype
   _ ← with_message site o (argument arguments 0)
   give (Object o)

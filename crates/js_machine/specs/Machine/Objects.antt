@@ -1,18 +1,17 @@
 -- The internal methods of objects in a run (8.12), which call getters and setters, and the objects that rules make.
-use Rattle.std.specs.Prelude.{ℕ, zero, suc, nat_eq, ◌||◌, ◌+◌, ◌&&◌, Bool, true, false, if◌then◌else◌, List, [], ◌∷◌, length, slice_get, codes, Option, Some, None}
+use Rattle.std.specs.Prelude.{ℕ, zero, suc, nat_eq, ◌||◌, ◌&&◌, Bool, true, false, if◌then◌else◌, List, [], ◌∷◌, length, slice_get, Option, Some, None}
 use Rattle.std.specs.Option.{option_and_then}
 use Rattle.js_value.specs.Conversions.{is_same_text}
-use Rattle.js_value.specs.declared.place.FuncNo.{FuncNo}
 use Rattle.js_value.specs.declared.place.Place.{Place}
 use Rattle.js_value.specs.declared.primitive.Primitive.TheVariants as primitive
 use Rattle.js_value.specs.declared.why.Why.TheVariants.{AbsentBuiltin, PrimitiveProperty, PrimitiveThis}
-use Rattle.plain_heap.specs.Values.{Value, Prim, Object, Absent, ObjNo, ScopeNo, number, text}
-use Rattle.plain_heap.specs.Heap.{Key, Heap, Property, ObjectState, Class, Plain, Array, Function, data_property, new_object, object_at, set_object, add_object, is_array}
+use Rattle.plain_heap.specs.Values.{Value, Prim, Object, Absent, ObjNo, number, text, Symbolic}
+use Rattle.plain_heap.specs.Heap.{Key, Heap, Property, ObjectState, Class, Plain, Array, object_at, set_object, depth_at, make_object, is_array_class}
 use Rattle.plain_heap.specs.Methods.{Descriptor, data_fields, checked_key, own_property, Got, GotValue, CallGetter, Putting, Refuse, Define, CallSetter, Defining, Defined, Rejected, BadLength, IfSame, array_index, length_key}
 use Rattle.plain_heap.specs.Methods as methods
-use Rattle.js_machine.specs.Machine.Numbers.{ErrorKind, TypeError, RangeError, error_prototype, object_prototype, function_prototype, array_prototype}
+use Rattle.js_machine.specs.Machine.RealmObjects.{ErrorKind, TypeError, RangeError, error_prototype, object_prototype, array_prototype}
 use Rattle.js_machine.specs.Machine.Operators.{same_value, to_length}
-use Rattle.js_machine.specs.Machine.Trees.{Base, Run, ◌>>=◌, give, throw, leave, need, change, look, choose, or_leave}
+use Rattle.js_machine.specs.Machine.Events.{◌>>=◌, Base, Run, give, throw, leave, change, look, choose, or_leave, make, stop, Lacks}
 
 -- where an operation is done: at which node, and how a value is called there with its `this` and its arguments
 pub record Site : Type 0 where
@@ -21,49 +20,21 @@ pub record Site : Type 0 where
 
 -- ---- objects that rules make
 
--- the number of the new object
-abbrev pub make_object : Class → ObjNo → Run ObjNo
-make_object class prototype = do
-  o ← look (λ h. length h.objects)
-  _ ← change (new_object class (Some prototype))
-  give o
+abbrev pub make_with : Class → ObjNo → Run ObjNo
+make_with class prototype = make (make_object class (Some prototype))
 
 -- 15.2.2.1, 15.4.2.1
 abbrev pub make_plain : Run ObjNo
-make_plain = make_object Plain object_prototype
+make_plain = make_with Plain object_prototype
 
 abbrev pub make_array : Run ObjNo
-make_array = make_object Array array_prototype
+make_array = make_with Array array_prototype
 
 -- an error that a rule throws is a new object without properties (15.11.7.7)
 abbrev pub throw_error : {A : Type 0} → ErrorKind → Run A
 throw_error kind = do
-  o ← make_object Plain (error_prototype kind)
+  o ← make_with Plain (error_prototype kind)
   throw (Object o)
-
--- the properties of a function object (13.2, steps 14 to 18): its length, and the object that comes with it
-abbrev pub function_state : FuncNo → Option ScopeNo → ℕ → ObjNo → ObjectState
-function_state f scope parameters prototype = record {
-  class = Function f scope;
-  prototype = Some function_prototype;
-  extensible = true;
-  properties = (length_key, data_property (number parameters) false false false) ∷ (codes "prototype", data_property (Object prototype) true false false) ∷ [];
-}
-
-abbrev pub prototype_state : ObjNo → ObjectState
-prototype_state f = record {
-  class = Plain;
-  prototype = Some object_prototype;
-  extensible = true;
-  properties = (codes "constructor", data_property (Object f) true false true) ∷ [];
-}
-
--- 13.2: a function object; the object that comes with it has the next number
-unfoldable pub make_function : FuncNo → Option ScopeNo → ℕ → Run ObjNo
-make_function f scope parameters = do
-  o ← look (λ h. length h.objects)
-  _ ← change (λ h. add_object (prototype_state o) (add_object (function_state f scope parameters (o + 1)) h))
-  give o
 
 -- ---- 8.12.3: [[Get]]
 
@@ -103,11 +74,13 @@ with_length at d (Some v) = do
   n ← to_length at v
   give (record d { value = Some (Prim (primitive.Number n)) })
 
+abbrev pub is_array_state : Option ObjectState → Bool
+is_array_state None = false
+is_array_state (Some o) = is_array_class o.class
+
 -- 15.4.5.1, step 3.c: the value that is to be an array's length becomes a number
-abbrev pub with_number : Site → ObjNo → Key → Descriptor → Run Descriptor
-with_number site o key d = do
-  array ← look (λ h. is_array h o)
-  choose (array && is_same_text key length_key) (with_length site.at d d.value) (give d)
+abbrev pub with_number : Place → Option ObjectState → Key → Descriptor → Run Descriptor
+with_number at state key d = choose (is_array_state state && is_same_text key length_key) (with_length at d d.value) (give d)
 
 abbrev pub define_at : Site → ObjNo → Key → Descriptor → Bool → Option ObjectState → Run (Unit {0})
 define_at site o key d throws None = give tt
@@ -117,8 +90,8 @@ define_at site o key d throws (Some state) = defining site o throws (methods.def
 unfoldable pub define : Site → ObjNo → Key → Descriptor → Bool → Run (Unit {0})
 define site o name d throws = do
   key ← or_leave site.at (checked_key name)
-  d ← with_number site o key d
   state ← look (λ h. object_at h o)
+  d ← with_number site.at state key d
   define_at site o key d throws state
 
 -- a new property with all attributes, as initialisers and built-ins make them
@@ -127,12 +100,16 @@ make_property site o key v = define site o key (data_fields v true true true) fa
 
 -- ---- 8.12.5: [[Put]]
 
+-- what a setter gives is not used
+abbrev pub setter_called : Value → Run (Unit {0})
+setter_called v = give tt
+
 abbrev pub putting : Site → ObjNo → Key → Value → Bool → Putting → Run (Unit {0})
 putting site o key v throws Refuse = reject throws
 putting site o key v throws (Define d) = define site o key d throws
 putting site o key v throws (CallSetter f) = do
-  _ ← site.call (Object f) (Object o) (v ∷ [])
-  give tt
+  v ← site.call (Object f) (Object o) (v ∷ [])
+  setter_called v
 
 unfoldable pub put : Site → ObjNo → Key → Value → Bool → Run (Unit {0})
 put site o name v throws = do
@@ -172,7 +149,8 @@ check_base at (Prim primitive.Undefined) = throw_error TypeError
 check_base at (Prim primitive.Null) = throw_error TypeError
 check_base at (Prim p) = give tt
 check_base at (Object o) = give tt
-check_base at s = need Base at
+check_base at Absent = leave AbsentBuiltin at
+check_base at (Symbolic s) = stop (Lacks Base) at
 
 -- the length of a string, and its units
 abbrev pub unit_of : Place → List ℕ → Option ℕ → Run Value
@@ -188,15 +166,15 @@ get_of site (Object o) key = get site o key
 get_of site (Prim (primitive.Text t)) key = get_of_string site.at t key
 get_of site v key = leave PrimitiveProperty site.at
 
--- 8.7.2
-unfoldable pub put_of : Site → Value → Key → Value → Run (Unit {0})
-put_of site (Object o) key v = put site o key v false
-put_of site base key v = leave PrimitiveProperty site.at
+-- 8.7.2; a change that is refused throws where the reference is strict
+unfoldable pub put_of : Site → Value → Key → Value → Bool → Run (Unit {0})
+put_of site (Object o) key v strict = put site o key v strict
+put_of site base key v strict = leave PrimitiveProperty site.at
 
 -- 11.4.1
-unfoldable pub delete_of : Site → Value → Key → Run Bool
-delete_of site (Object o) key = delete site o key false
-delete_of site base key = leave PrimitiveProperty site.at
+unfoldable pub delete_of : Site → Value → Key → Bool → Run Bool
+delete_of site (Object o) key strict = delete site o key strict
+delete_of site base key strict = leave PrimitiveProperty site.at
 
 -- 9.9: ToObject of the `this` of a built-in; no objects are made of primitives
 unfoldable pub to_object : Place → Value → Run ObjNo
@@ -217,4 +195,4 @@ is_among_next (suc n) h o (Some next) = nat_eq next o || is_among_next n h o (pr
 
 -- the first object is on the chain of prototypes of the second
 unfoldable pub is_prototype_of : ObjNo → ObjNo → Heap → Bool
-is_prototype_of o v h = is_among_next (length h.objects) h o (prototype_of h v)
+is_prototype_of o v h = is_among_next (depth_at h (Some v)) h o (prototype_of h v)

@@ -1,5 +1,5 @@
 -- The text of a run: its host calls, how it ended, and its listing.
-use Rattle.std.specs.Prelude.{ℕ, Bool, if◌then◌else◌, List, [], ◌∷◌, ◌++◌, codes, Option, Some, None}
+use Rattle.std.specs.Prelude.{ℕ, Bool, if◌then◌else◌, List, [], ◌∷◌, ◌++◌, codes, Option, Some, None, unwrap_or}
 use Rattle.std.specs.Fmt.{decimal}
 use Rattle.std.specs.List.{flat_map}
 use Rattle.js_value.specs.Conversions.{to_text}
@@ -8,7 +8,6 @@ use Rattle.js_value.specs.declared.primitive.Primitive.TheVariants as primitive
 use Rattle.js_tree.specs.Mentions.{free_names}
 use Rattle.js_tree.specs.declared.statement.Script.{Script}
 use Rattle.plain_heap.specs.Heap.{Key}
-use Rattle.plain_heap.specs.Methods.{or_value}
 use Rattle.plain_heap.specs.Values.{Value, Prim, Absent}
 use Rattle.js_machine.specs.Machine.Listed.{listing, queue_of, Listed, NewObject, RealmObject, ListedValue, ListedProperty, DataLine, AccessorLine, Sort, PlainObject, ArrayObject, FunctionObject, Row, NewRow, CellRow, RealmRow, Item, listed_value}
 use Rattle.js_machine.specs.Machine.Realm.{realm_name}
@@ -50,14 +49,22 @@ gone_text key = line (codes "  -" ++ quoted key)
 abbrev pub fixed_text : Bool → List ℕ
 fixed_text fixed = if fixed then codes " fixed" else []
 
+abbrev pub strict_text : Bool → List ℕ
+strict_text strict = if strict then codes " strict" else []
+
 -- ---- host calls, and how the run ended
 
 abbrev pub arguments_text : List Value → List ℕ
 arguments_text [] = []
 arguments_text (v ∷ vs) = value_text v ++ flat_map (λ w. codes ", " ++ value_text w) vs
 
+-- whether an answer was thrown is known in a run in a world
+abbrev pub answer_text : Value → List ℕ
+answer_text (Prim (primitive.Boolean true)) = codes " throws "
+answer_text threw = codes " = "
+
 abbrev pub call_text : HostEvent → List ℕ
-call_text c = line (codes "call " ++ quoted c.name ++ codes "(" ++ arguments_text c.arguments ++ codes ") = " ++ value_text c.answer)
+call_text c = line (codes "call " ++ quoted c.name ++ codes "(" ++ arguments_text c.arguments ++ codes ")" ++ answer_text c.threw ++ value_text c.answer)
 
 abbrev pub ending_text : List Item → Ending → List ℕ
 ending_text queue Normally = line (codes "normal")
@@ -73,15 +80,19 @@ module _ {C : Type 0} (code_text : C → List ℕ) where
   abbrev pub sort_text : Sort C → List ℕ
   sort_text PlainObject = codes "object"
   sort_text ArrayObject = codes "array"
-  sort_text (FunctionObject code cells) = codes "function"
+  sort_text (FunctionObject code strict cells) = codes "function"
+
+  abbrev pub mark_text : Sort C → List ℕ
+  mark_text (FunctionObject code strict cells) = strict_text strict
+  mark_text sort = []
 
   abbrev pub code_lines : Sort C → List ℕ
-  code_lines (FunctionObject code cells) = line (codes "  code " ++ code_text code) ++ cells_text cells
+  code_lines (FunctionObject code strict cells) = line (codes "  code " ++ code_text code) ++ cells_text cells
   code_lines sort = []
 
   abbrev pub row_text : Row C → List ℕ
   row_text (NewRow n sort prototype fixed properties) =
-      line (codes "#" ++ decimal n ++ codes " " ++ sort_text sort ++ codes " " ++ listed_text prototype ++ fixed_text fixed) ++ code_lines sort ++ flat_map property_text properties
+      line (codes "#" ++ decimal n ++ codes " " ++ sort_text sort ++ codes " " ++ listed_text prototype ++ mark_text sort ++ fixed_text fixed) ++ code_lines sort ++ flat_map property_text properties
   row_text (CellRow n v) = line (codes "@" ++ decimal n ++ codes " = " ++ listed_text v)
   row_text (RealmRow o fixed gone others new) =
       line (unwrap_or (realm_name o) [] ++ fixed_text fixed) ++ flat_map gone_text gone ++ flat_map property_text others ++ flat_map property_text new

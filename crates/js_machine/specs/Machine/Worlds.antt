@@ -1,12 +1,11 @@
 -- What a world gives to a script.
-use Rattle.std.specs.Prelude.{Bool, true, false, IsTrue}
+use Rattle.std.specs.Prelude.{Bool, true, false, IsTrue, unwrap_or}
 use Rattle.std.specs.List.{list_all}
 use Rattle.std.specs.Option.{option_map}
 use Rattle.js_tree.specs.Early.{is_closed}
 use Rattle.js_tree.specs.Mentions.{Mention, Takes, mentions}
 use Rattle.js_tree.specs.declared.statement.Script.{Script}
 use Rattle.plain_heap.specs.Heap.{lookup}
-use Rattle.plain_heap.specs.Methods.{or_value}
 use Rattle.js_machine.specs.Machine.Walks.{World, is_of_kind}
 
 -- an input that is taken has a value of its kind

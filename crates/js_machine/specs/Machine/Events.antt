@@ -3,7 +3,7 @@ use Rattle.std.specs.Prelude.{ℕ, zero, suc, Bool, true, false, List, [], ◌�
 use Rattle.js_value.specs.declared.place.Place.{Place}
 use Rattle.js_value.specs.declared.primitive.Kind.{Kind}
 use Rattle.js_value.specs.declared.why.Why.{Why}
-use Rattle.plain_heap.specs.Values.{Value}
+use Rattle.plain_heap.specs.Values.{Value, Symbol}
 use Rattle.plain_heap.specs.Heap.{Heap}
 
 -- where a symbol stands though a known value must stand there: as the base of a property, as its key, as the length of an array or
@@ -14,21 +14,24 @@ pub data Need : Type 0 where
   Length : Need
   Argument : Need
 
+-- why a run can't go on: it leaves the profile, or a symbol stands where it can't
+pub data StopKind : Type 0 where
+  Leaves : Why → StopKind
+  Lacks : Need → StopKind
+
 pub data Tree : Type 0 where
   -- the evaluation of a node begins
   Step : Place → Tree → Tree
   -- a turn of a built-in begins
   Turn : Place → Tree → Tree
   -- whether a symbol is true (9.2)
-  Ask : Place → Value → (Bool → Tree) → Tree
+  Ask : Place → Symbol → (Bool → Tree) → Tree
   -- the value of the input of this kind and name
   Input : Place → Kind → List ℕ → (Value → Tree) → Tree
-  -- the answer to a host call: the kind that it is to have, the name, and the arguments
-  Call : Place → Kind → List ℕ → List Value → (Value → Tree) → Tree
-  -- the run leaves the profile
-  Leave : Why → Place → Tree
-  -- a symbol stands where it can't
-  Needs : Need → Place → Tree
+  -- the answer to a host call, and whether it is thrown: the kind that it is to have, the name, and the arguments
+  Call : Place → Kind → List ℕ → List Value → (Value → Value → Tree) → Tree
+  -- the run can't go on
+  Stop : StopKind → Place → Tree
   -- a loop has had as many turns as were allowed for
   Spent : Tree
   -- the code ends
@@ -50,11 +53,11 @@ give a = λ s k h. k a s
 abbrev pub throw : {A : Type 0} → Value → Run A
 throw v = λ s k h. h v s
 
-abbrev pub leave : {A : Type 0} → Why → Place → Run A
-leave why at = λ s k h. Leave why at
+abbrev pub stop : {A : Type 0} → StopKind → Place → Run A
+stop why at = λ s k h. Stop why at
 
-abbrev pub need : {A : Type 0} → Need → Place → Run A
-need what at = λ s k h. Needs what at
+abbrev pub leave : {A : Type 0} → Why → Place → Run A
+leave why at = stop (Leaves why) at
 
 abbrev pub spent : {A : Type 0} → Run A
 spent = λ s k h. Spent
@@ -63,6 +66,10 @@ spent = λ s k h. Spent
 
 abbrev pub change : (Heap → Heap) → Run (Unit {0})
 change f = λ s k h. k tt (f s)
+
+-- a change that makes something and gives what it made
+abbrev pub make : {A : Type 0} → (Heap → A × Heap) → Run A
+make f = λ s k h. k (f s).0 (f s).1
 
 abbrev pub look : {A : Type 0} → (Heap → A) → Run A
 look f = λ s k h. k (f s) s
@@ -75,20 +82,25 @@ step at m = λ s k h. Step at (m s k h)
 abbrev pub turn : Place → Run (Unit {0})
 turn at = λ s k h. Turn at (k tt s)
 
-abbrev pub ask : Place → Value → Run Bool
-ask at v = λ s k h. Ask at v (λ b. k b s)
+abbrev pub ask : Place → Symbol → Run Bool
+ask at symbol = λ s k h. Ask at symbol (λ b. k b s)
 
 abbrev pub take_input : Place → Kind → List ℕ → Run Value
 take_input at kind name = λ s k h. Input at kind name (λ v. k v s)
 
-abbrev pub call_host : Place → Kind → List ℕ → List Value → Run Value
-call_host at kind name arguments = λ s k h. Call at kind name arguments (λ v. k v s)
+-- the answer, and whether it is thrown
+abbrev pub call_host : Place → Kind → List ℕ → List Value → Run (Value × Value)
+call_host at kind name arguments = λ s k h. Call at kind name arguments (λ v threw. k (v, threw) s)
 
 -- ---- choices
 
 abbrev pub choose : {A : Type 0} → Bool → Run A → Run A → Run A
 choose true m n = m
 choose false m n = n
+
+abbrev pub or_stop : {A : Type 0} → Place → Result A StopKind → Run A
+or_stop at (Ok a) = give a
+or_stop at (Err why) = stop why at
 
 abbrev pub or_leave : {A : Type 0} → Place → Result A Why → Run A
 or_leave at (Ok a) = give a
