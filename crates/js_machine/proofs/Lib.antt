@@ -1,12 +1,2 @@
 pub mod Opening
-pub mod ExpressionRuns
-pub mod WorldRuns
-pub mod StatementRuns
-pub mod FunctionRuns
-pub mod ObjectRuns
-pub mod ArrayRuns
-pub mod ChoiceRuns
-pub mod ListingCases
-pub mod RealmCases
 pub mod Steps
-pub mod TextCases

@@ -5,11 +5,11 @@ use Rattle.js_value.specs.declared.place.Place.{Place}
 use Rattle.js_value.specs.declared.primitive.Kind.{Kind}
 use Rattle.js_value.specs.declared.primitive.Primitive.{Primitive}
 use Rattle.js_value.specs.declared.why.Why.{Why}
-use Rattle.js_value.specs.declared.why.Why.TheVariants.{NoInput, InputKind, NoAnswer, AnswerKind}
+use Rattle.js_value.specs.declared.why.Why.TheVariants.{NoInput, InputKind, AnswerKind}
 use Rattle.plain_heap.specs.Heap.{lookup}
-use Rattle.plain_heap.specs.Values.{Value, Prim}
-use Rattle.js_machine.specs.Machine.Trees.{Tree, Step, Turn, Ask, Input, Call, Leave, Needs, Spent, End, Fail}
-use Rattle.js_machine.specs.Machine.Walks.{World, HostEvent, Outcome, Ended, Left, OutOfSteps, walk, given, called, is_of_kind}
+use Rattle.plain_heap.specs.Values.{Value, Prim, truth}
+use Rattle.js_machine.specs.Machine.Events.{Tree, Step, Turn, Ask, Input, Call, Stop, Spent, End, Fail}
+use Rattle.js_machine.specs.Machine.Walks.{World, HostEvent, Outcome, Ended, Left, OutOfSteps, walk, given, called, is_of_kind, Answer, answered}
 use Rattle.js_machine.specs.Machine.Laws.{MoreSteps}
 
 -- the run came to something else than the end of its steps
@@ -27,6 +27,16 @@ given_more at missing other k (Some p) r s same over = by_kind (is_of_kind k p) 
     by_kind true over = same (Prim p) over
     by_kind false over = refl
 
+answered_more : (at : Place) (k : Kind) (found : Option Answer) (r s : Value → Value → Outcome) → ((v threw : Value) → IsOver (r v threw) → s v threw ≡ r v threw)
+    → IsOver (answered at k found r) → answered at k found s ≡ answered at k found r
+answered_more at k None r s same over = refl
+answered_more at k (Some answer) r s same over = by_kind (is_of_kind k answer.value) over
+  where
+    by_kind : (b : Bool) → IsOver (if b then r (Prim answer.value) (truth answer.threw) else Left AnswerKind at)
+        → (if b then s (Prim answer.value) (truth answer.threw) else Left AnswerKind at) ≡ (if b then r (Prim answer.value) (truth answer.threw) else Left AnswerKind at)
+    by_kind true over = same (Prim answer.value) (truth answer.threw) over
+    by_kind false over = refl
+
 one_more : (w : World) (n : ℕ) (calls : List HostEvent) (t : Tree) → IsOver (walk w n calls t) → walk w (suc n) calls t ≡ walk w n calls t
 one_more w zero calls (Step at t) over = absurd over
 one_more w (suc n) calls (Step at t) over = one_more w n calls t over
@@ -36,10 +46,9 @@ one_more w n calls (Ask at v f) over = refl
 one_more w n calls (Input at k name f) over =
     given_more at NoInput InputKind k (lookup name w.inputs) (λ v. walk w n calls (f v)) (λ v. walk w (suc n) calls (f v)) (λ v over. one_more w n calls (f v) over) over
 one_more w n calls (Call at k name arguments f) over =
-    given_more at NoAnswer AnswerKind k (slice_get w.answers (length calls)) (λ v. walk w n (called calls name arguments k v) (f v)) (λ v. walk w (suc n) (called calls name arguments k v) (f v))
-    (λ v over. one_more w n (called calls name arguments k v) (f v) over) over
-one_more w n calls (Leave why at) over = refl
-one_more w n calls (Needs what at) over = refl
+    answered_more at k (slice_get w.answers (length calls)) (λ v threw. walk w n (called calls name arguments k v threw) (f v threw)) (λ v threw. walk w (suc n) (called calls name arguments k v threw) (f v threw))
+    (λ v threw over. one_more w n (called calls name arguments k v threw) (f v threw) over) over
+one_more w n calls (Stop why at) over = refl
 one_more w n calls Spent over = refl
 one_more w n calls (End h) over = refl
 one_more w n calls (Fail v h) over = refl

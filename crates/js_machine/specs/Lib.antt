@@ -1,12 +1,1 @@
 pub mod Machine
-pub mod RunCases
-pub mod ExpressionRuns
-pub mod WorldRuns
-pub mod StatementRuns
-pub mod FunctionRuns
-pub mod ObjectRuns
-pub mod ArrayRuns
-pub mod ChoiceRuns
-pub mod ListingCases
-pub mod RealmCases
-pub mod TextCases

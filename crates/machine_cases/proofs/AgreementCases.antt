@@ -16,6 +16,7 @@ use Rattle.js_machine.specs.Machine.Listed.{Listed, ListedValue, NewObject, Real
 use Rattle.js_machine.specs.Machine.Realm.{realm}
 use Rattle.js_machine.specs.Machine.Walks.{HostEvent}
 use Rattle.machine_cases.specs.AgreementCases.{AgreementCases, closed_script, named_alike, with_input, call_inside}
+use Rattle.js_machine.specs.Machine.Expressions.{Return}
 
 the_closed : is_closed closed_script ≡ true
 unfolding is_closed

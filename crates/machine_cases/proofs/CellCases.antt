@@ -16,6 +16,7 @@ use Rattle.js_machine.specs.Machine.Realm.{realm}
 use Rattle.js_machine.specs.Machine.Walks.{Normally}
 use Rattle.machine_cases.specs.CellCases.{CellCases, reader, one_cell, one_cell_later, two_cells}
 use Rattle.machine_cases.proofs.AgreementCases.{apart, listed_number}
+use Rattle.js_machine.specs.Machine.Expressions.{Return}
 
 abbrev inside : List Inside
 inside = ([], Reads (place 21) (codes "n") ∷ []) ∷ []

@@ -24,6 +24,8 @@ use Rattle.script_text.specs.Pieces.{Piece, LineEnd, Bind, Release, word, openin
 use Rattle.script_text.specs.Printing.{function_to}
 use Rattle.script_text.specs.Statements.{begin_braces, end_braces}
 use Rattle.machine_cases.specs.CodeCases.{CodeCases, two_names, own_name, after_two_names, listed_text, two_names_text}
+use Rattle.js_tree.specs.declared.statement.Func.{Func}
+use Rattle.js_machine.specs.Machine.Expressions.{Return}
 
 ruleset forms = (fold_out-Expr, fold_out-ExprForm, fold_out-Stmt, fold_out-StmtForm, e.outs-Name, e.outs-Binary, e.outs-Func, s.outs-Return)
 

@@ -1,3 +1,14 @@
+pub mod MethodCases
+pub mod ExpressionRuns
+pub mod WorldRuns
+pub mod StatementRuns
+pub mod FunctionRuns
+pub mod ObjectRuns
+pub mod ArrayRuns
+pub mod ChoiceRuns
+pub mod ListingCases
+pub mod RealmCases
+pub mod TextCases
 pub mod RealmOrder
 pub mod ObjectTurns
 pub mod ArrayTurns

@@ -12,9 +12,9 @@ use Rattle.js_tree.specs.declared.statement.Script.{Script}
 use Rattle.js_tree.specs.declared.statement.StmtForm.TheVariants as s
 use Rattle.plain_heap.specs.Heap.{Heap, Properties, add_object, data_property}
 use Rattle.plain_heap.specs.Values.{Object, number, text}
-use Rattle.js_machine.specs.ListingCases.{added, after_number, holding, plain}
+use Rattle.machine_cases.specs.ListingCases.{added, after_number, holding, plain}
 use Rattle.js_machine.specs.Machine.Listed.{Agree}
-use Rattle.js_machine.specs.Machine.Numbers.{global, function_prototype, object_prototype}
+use Rattle.js_machine.specs.Machine.RealmObjects.{global, function_prototype, object_prototype}
 use Rattle.js_machine.specs.Machine.Realm.{realm}
 use Rattle.js_machine.specs.Machine.Walks.{HostEvent, Ended, Left, OutOfSteps, Normally, Outcome, Thrown}
 use Rattle.js_machine.specs.Machine.Worlds.{IsClosed}

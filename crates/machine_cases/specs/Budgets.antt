@@ -2,7 +2,7 @@
 use Rattle.std.specs.Prelude.{ℕ, List, [], ◌∷◌, map}
 use Rattle.js_tree.specs.declared.statement.Script.{Script}
 use Rattle.js_machine.specs.Machine.Realm.{realm}
-use Rattle.js_machine.specs.RunCases.{Seen, Values, StepsSpent, no_world, deep, seen}
+use Rattle.machine_cases.specs.RunCases.{Seen, Values, StepsSpent, no_world, deep, seen}
 
 -- what a script comes to with each of these budgets, where thirty nodes and more may be active
 abbrev pub by_budget : ℕ → Script → List ℕ → List Seen

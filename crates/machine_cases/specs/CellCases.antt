@@ -6,13 +6,13 @@ use Rattle.js_tree.specs.Trees.{expr, stmt, no, func, script}
 use Rattle.js_tree.specs.declared.expression.ExprForm.TheVariants as e
 use Rattle.js_tree.specs.declared.statement.Script.{Script}
 use Rattle.js_tree.specs.declared.statement.StmtForm.TheVariants as s
-use Rattle.plain_heap.specs.Heap.{Heap, add_object, new_cell, new_scope}
-use Rattle.plain_heap.specs.Values.{ScopeNo, number}
-use Rattle.js_machine.specs.ListingCases.{holding}
+use Rattle.plain_heap.specs.Heap.{Heap, add_object, new_cell, Environment}
+use Rattle.plain_heap.specs.Values.{number, CellNo}
+use Rattle.machine_cases.specs.ListingCases.{holding}
 use Rattle.js_machine.specs.Machine.Listed.{Agree}
-use Rattle.js_machine.specs.Machine.Objects.{function_state, prototype_state}
 use Rattle.js_machine.specs.Machine.Realm.{realm}
 use Rattle.js_machine.specs.Machine.Walks.{Ended, Normally}
+use Rattle.js_machine.specs.Machine.Creating.{function_state, prototype_state}
 
 -- with one function, `function () { return n; }`
 abbrev pub reader : Script
@@ -22,24 +22,26 @@ reader =
 abbrev pub AgreeAsLeft : Heap → Heap → Type 0
 AgreeAsLeft h other = Agree {C = FuncNo × Names} (λ s f names. (f, names)) reader (Ended [] Normally h) reader (Ended [] Normally other)
 
--- the variables f and g hold two function objects of this code, made in these scopes
-abbrev pub readers : ScopeNo → ScopeNo → Heap
+-- the variables f and g hold two function objects of this code, made in these environments
+abbrev pub readers : Environment → Environment → Heap
 readers s t =
-    add_object (prototype_state 43) (add_object (function_state (no 0) (Some t) 0 44) (add_object (prototype_state 41) (add_object (function_state (no 0) (Some s) 0 42) (holding (codes "g") 43 (holding (codes "f") 41 realm)))))
+    add_object (prototype_state 43) (add_object (function_state (no 0) t false 0 44) (add_object (prototype_state 41) (add_object (function_state (no 0) s false 0 42) (holding (codes "g") 43 (holding (codes "f") 41 realm)))))
+
+-- an environment that binds `n` to this cell
+abbrev pub binding : CellNo → Environment
+binding c = (codes "n", c) ∷ []
 
 -- both read one cell, which holds this number
 abbrev pub one_cell : ℕ → Heap
-one_cell n = new_scope None ((codes "n", 0) ∷ []) (new_cell (number n) (readers 0 0))
+one_cell n = new_cell (number n) (readers (binding 0) (binding 0))
 
--- a cell was made before that nothing leads to, and the second function stands in an inner scope
+-- a cell was made before that nothing leads to, and the second function stands in inner code
 abbrev pub one_cell_later : Heap
-one_cell_later =
-    new_scope (Some 0) ((codes "m", 0) ∷ []) (new_scope None ((codes "n", 1) ∷ []) (new_cell (number 1) (new_cell (number 7) (readers 0 1))))
+one_cell_later = new_cell (number 1) (new_cell (number 7) (readers (binding 1) ((codes "m", 0) ∷ binding 1)))
 
 -- each reads a cell of its own
 abbrev pub two_cells : Heap
-two_cells =
-    new_scope None ((codes "n", 1) ∷ []) (new_scope None ((codes "n", 0) ∷ []) (new_cell (number 1) (new_cell (number 1) (readers 0 1))))
+two_cells = new_cell (number 1) (new_cell (number 1) (readers (binding 0) (binding 1)))
 
 pub record CellCases : Type 0 where
   pub same_cell : AgreeAsLeft (one_cell 1) one_cell_later

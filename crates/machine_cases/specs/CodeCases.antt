@@ -7,15 +7,15 @@ use Rattle.js_tree.specs.Trees.{expr, stmt, no, declared, declarator, func, scri
 use Rattle.js_tree.specs.declared.expression.ExprForm.TheVariants as e
 use Rattle.js_tree.specs.declared.statement.Script.{Script}
 use Rattle.js_tree.specs.declared.statement.StmtForm.TheVariants as s
-use Rattle.plain_heap.specs.Heap.{Heap, add_object, new_cell, new_scope}
+use Rattle.plain_heap.specs.Heap.{Heap, add_object, new_cell}
 use Rattle.plain_heap.specs.Values.{number}
-use Rattle.js_machine.specs.ListingCases.{holding}
+use Rattle.machine_cases.specs.ListingCases.{holding}
 use Rattle.js_machine.specs.Machine.Listed.{listing_by, queue_of}
-use Rattle.js_machine.specs.Machine.Objects.{function_state, prototype_state}
 use Rattle.js_machine.specs.Machine.Realm.{realm}
 use Rattle.js_machine.specs.Machine.RunText.{line, run_text}
 use Rattle.js_machine.specs.Machine.Walks.{Normally}
 use Rattle.script_text.specs.CodeLine.{code_text}
+use Rattle.js_machine.specs.Machine.Creating.{function_state, prototype_state}
 
 -- var f = (function (a, b) { return function () { return b + a + b; }; })(1, 2);
 abbrev pub two_names : Script
@@ -31,8 +31,8 @@ own_name =
 
 abbrev pub after_two_names : Heap
 after_two_names =
-    new_scope None ((codes "a", 0) ∷ (codes "b", 1) ∷ []) (new_cell (number 2) (new_cell (number 1)
-    (add_object (prototype_state 43) (add_object (function_state (no 1) (Some 0) 0 44) (add_object (prototype_state 41) (add_object (function_state (no 0) None 2 42) (holding (codes "f") 43 realm)))))))
+    new_cell (number 2) (new_cell (number 1)
+    (add_object (prototype_state 43) (add_object (function_state (no 1) ((codes "a", 0) ∷ (codes "b", 1) ∷ []) false 0 44) (add_object (prototype_state 41) (add_object (function_state (no 0) [] false 2 42) (holding (codes "f") 43 realm))))))
 
 -- where these are the free names of each function that is listed
 abbrev pub listed_text : Script → Names → Heap → List ℕ

@@ -13,7 +13,7 @@ use Rattle.js_tree.specs.declared.statement.StmtForm.TheVariants as s
 use Rattle.plain_heap.specs.Values.{text, truth}
 use Rattle.js_machine.specs.Machine.Realm.{realm}
 use Rattle.js_machine.specs.Machine.Walks.{World}
-use Rattle.js_machine.specs.RunCases.{LeavesAt, Values, deep, no_world, seen}
+use Rattle.machine_cases.specs.RunCases.{LeavesAt, Values, deep, no_world, seen}
 
 -- 1 + 5 / 2;
 abbrev pub quotient : Script

@@ -13,12 +13,12 @@ use Rattle.js_tree.specs.declared.expression.ExprForm.TheVariants as e
 use Rattle.js_tree.specs.declared.expression.Field.TheVariants as field
 use Rattle.js_tree.specs.declared.statement.Script.{Script}
 use Rattle.js_tree.specs.declared.statement.StmtForm.TheVariants as s
-use Rattle.js_machine.specs.ChoiceRuns.{came}
-use Rattle.js_machine.specs.Machine.Choices.{Leaves, Lacks, OpenEnded, OpenRun, Stopped, open_walk}
+use Rattle.machine_cases.specs.ChoiceRuns.{came}
+use Rattle.js_machine.specs.Machine.Choices.{OpenEnded, OpenRun, Stopped, open_walk}
 use Rattle.js_machine.specs.Machine.Levels.{script_tree_within}
 use Rattle.js_machine.specs.Machine.Realm.{realm}
-use Rattle.js_machine.specs.Machine.Trees.{Argument, Base, Key, Length, Need}
-use Rattle.js_machine.specs.RunCases.{deep}
+use Rattle.js_machine.specs.Machine.Events.{Argument, Base, Key, Length, Need, Lacks, Leaves}
+use Rattle.machine_cases.specs.RunCases.{deep}
 
 -- the run of a script on the realm along no choices
 abbrev pub opened : ℕ → Script → OpenRun

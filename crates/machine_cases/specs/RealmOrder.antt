@@ -1,6 +1,6 @@
 -- The objects that are there from the start (15), in order: their classes and prototypes, their own properties with values and
 -- attributes, and what their functions are called and how long they are.
-use Rattle.std.specs.Prelude.{◌≡◌, ℕ, ◌++◌, Bool, true, List, [], ◌∷◌, map, codes, Option, Some, None}
+use Rattle.std.specs.Prelude.{◌≡◌, ℕ, ◌++◌, Bool, true, List, [], ◌∷◌, map, codes, Option, Some, None, length}
 use Rattle.std.specs.List.{flat_map, range_with_len}
 use Rattle.std.specs.Option.{option_and_then, option_map}
 use Rattle.plain_heap.specs.Heap.{Array, Builtin, Class, Key, ObjectState, Plain, Property, object_at}

@@ -1,6 +1,17 @@
-//! Cases of the definitions of `js_machine`, worked out by hand, that stand beside those of `js_machine` itself.
+//! Cases of the definitions of `plain_heap` and `js_machine`, worked out by hand.
 #![tactic(auto)]
 
+ghost use Rattle.machine_cases.specs.MethodCases.{MethodCases};
+ghost use Rattle.machine_cases.specs.ExpressionRuns.{ExpressionRuns};
+ghost use Rattle.machine_cases.specs.WorldRuns.{WorldRuns};
+ghost use Rattle.machine_cases.specs.StatementRuns.{StatementRuns};
+ghost use Rattle.machine_cases.specs.FunctionRuns.{FunctionRuns};
+ghost use Rattle.machine_cases.specs.ObjectRuns.{ObjectRuns};
+ghost use Rattle.machine_cases.specs.ArrayRuns.{ArrayRuns};
+ghost use Rattle.machine_cases.specs.ChoiceRuns.{ChoiceRuns};
+ghost use Rattle.machine_cases.specs.ListingCases.{ListingCases};
+ghost use Rattle.machine_cases.specs.RealmCases.{RealmCases};
+ghost use Rattle.machine_cases.specs.TextCases.{TextCases};
 ghost use Rattle.machine_cases.specs.AgreementCases.{AgreementCases};
 ghost use Rattle.machine_cases.specs.ArrayTurns.{ArrayTurns};
 ghost use Rattle.machine_cases.specs.CellCases.{CellCases};
@@ -9,6 +20,45 @@ ghost use Rattle.machine_cases.specs.LeftRuns.{LeftRuns};
 ghost use Rattle.machine_cases.specs.NeedRuns.{NeedRuns};
 ghost use Rattle.machine_cases.specs.ObjectTurns.{ObjectTurns};
 ghost use Rattle.machine_cases.specs.RealmOrder.{RealmOrder};
+
+/// Cases of the internal methods of objects, of valid heaps and of names in environments, worked out by hand.
+#[tactic(auto, using(crate::proofs::MethodCases::method_cases))]
+pub fn method_cases()
+    ensures { MethodCases }
+{}
+
+/// Runs of scripts of the whole language, worked out by hand: what they leave in global variables, what they throw, where and
+/// why they leave the profile, and how many steps they take. Each holds wherever enough nodes may be active at once.
+#[tactic(auto, using(crate::proofs::ExpressionRuns::expression_runs, crate::proofs::StatementRuns::statement_runs, crate::proofs::FunctionRuns::function_runs, crate::proofs::ObjectRuns::object_runs, crate::proofs::ArrayRuns::array_runs, crate::proofs::WorldRuns::world_runs))]
+pub fn run_cases()
+    ensures expressions { ExpressionRuns }
+    ensures statements { StatementRuns }
+    ensures functions { FunctionRuns }
+    ensures objects { ObjectRuns }
+    ensures arrays { ArrayRuns }
+    ensures worlds { WorldRuns }
+{}
+
+/// Runs along choices of the tests of inputs and answers, and what a world is to give, worked out by hand.
+#[tactic(auto, using(crate::proofs::ChoiceRuns::choice_runs))]
+pub fn choice_cases()
+    ensures { ChoiceRuns }
+{}
+
+/// Listings of heaps and their texts, worked out by hand: new objects, functions and cells, and what differs of the objects that
+/// are there from the start.
+#[tactic(auto, using(crate::proofs::ListingCases::listing_cases, crate::proofs::TextCases::text_cases))]
+pub fn listing_cases()
+    ensures rows { ListingCases }
+    ensures texts { TextCases }
+{}
+
+/// Cases of the objects that are there from the start, which are a valid heap, and of runs that end since too many nodes or calls
+/// of built-ins are active at once.
+#[tactic(auto, using(crate::proofs::RealmCases::realm_cases))]
+pub fn realm_cases()
+    ensures { RealmCases }
+{}
 
 /// The objects that are there from the start, one after another: the class and the prototype of each, its own properties in order
 /// with their values and attributes, those that are left out among them, and the `length` of each function.

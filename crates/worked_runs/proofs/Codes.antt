@@ -30,6 +30,9 @@ use Rattle.script_text.specs.CodeLine.{add, add_all, empty_line, code_pieces, co
 use Rattle.script_text.specs.Printing.{function_to}
 use Rattle.worked_runs.proofs.Folds.{opened, field_opened}
 use Rattle.worked_runs.specs.WorkedRuns.{throwing_setter_script, inherited_setter_script, makers_script, counter_script}
+use Rattle.js_tree.specs.declared.statement.Func.{Func}
+use Rattle.js_machine.specs.Machine.Creating.{function}
+use Rattle.js_machine.specs.Machine.Expressions.{Return}
 
 -- ---- the lines
 

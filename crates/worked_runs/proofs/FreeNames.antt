@@ -23,6 +23,7 @@ use Rattle.js_tree.specs.declared.statement.StmtForm.TheFolds.{fold_out-Stmt, fo
 use Rattle.js_tree.specs.declared.statement.StmtForm.TheVariants as s
 use Rattle.js_machine.specs.Machine.Listed.{FreeNames}
 use Rattle.worked_runs.specs.WorkedRuns.{make_function, inc_function, get_function, counter_script, makers_script, inherited_setter_script, throwing_setter_script}
+use Rattle.js_machine.specs.Machine.Expressions.{Return}
 
 -- the free names of each function, where this is what the insides of the functions mention
 abbrev pub names_by : List Inside → FreeNames

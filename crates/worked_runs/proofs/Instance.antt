@@ -5,7 +5,7 @@ use Rattle.js_machine.specs.Machine.Levels.{script_tree, script_tree_within}
 use Rattle.js_machine.specs.Machine.Realm.{realm}
 use Rattle.js_machine.specs.Machine.RunText.{outcome_text}
 use Rattle.js_machine.specs.Machine.Walks.{Outcome, plain, plain_from, walk}
-use Rattle.js_machine.specs.RunCases.{deep, no_world}
+use Rattle.machine_cases.specs.RunCases.{deep, no_world}
 
 module _ (s : Script) (o : Outcome) (run : (d turns : ℕ) → walk no_world 200 [] (script_tree_within (deep d) turns s realm) ≡ o) where
   -- 1,200 is 1,170 beyond thirty

@@ -1,6 +1,6 @@
 -- The text of a heap that a run leaves, by the free names of the script's functions and the lines of code that it shows.
 use Rattle.std.proofs.Common.{◌≡◌, List, ℕ, [], ◌∷◌, ap, refl, ◌∙◌, Some, map}
-use Rattle.std.specs.Prelude.{codes, slice_get}
+use Rattle.std.specs.Prelude.{codes, slice_get, unwrap_or}
 use Rattle.std.specs.Fmt.{digits}
 use Rattle.js_value.specs.Conversions.{is_same_value, to_text}
 use Rattle.js_value.specs.Texts.{quoted_unit}
@@ -9,7 +9,6 @@ use Rattle.js_tree.specs.Mentions.{Names, Inside, free_names}
 use Rattle.js_tree.specs.Trees.{no}
 use Rattle.js_tree.specs.declared.statement.Script.{Script}
 use Rattle.plain_heap.specs.Heap.{Heap, resolve}
-use Rattle.plain_heap.specs.Methods.{or_value}
 use Rattle.js_machine.specs.Machine.Listed.{Row, queue_of, listing_by}
 use Rattle.js_machine.specs.Machine.Realm.{realm, realm_names, realm_name}
 use Rattle.js_machine.specs.Machine.RunText.{outcome_text, run_text}

@@ -1,12 +1,12 @@
 -- Heaps that runs leave, worked out by hand.
 use Rattle.std.specs.Prelude.{true, false, [], ◌∷◌, codes, Some, None}
 use Rattle.js_tree.specs.Trees.{no}
-use Rattle.plain_heap.specs.Heap.{Accessor, Heap, data_property, add_object, new_cell, new_scope}
+use Rattle.plain_heap.specs.Heap.{Accessor, Heap, data_property, add_object, new_cell}
 use Rattle.plain_heap.specs.Values.{Object, number, truth}
-use Rattle.js_machine.specs.ListingCases.{added, holding, plain}
-use Rattle.js_machine.specs.Machine.Numbers.{global, object_prototype}
-use Rattle.js_machine.specs.Machine.Objects.{function_state, prototype_state}
+use Rattle.machine_cases.specs.ListingCases.{added, holding, plain}
+use Rattle.js_machine.specs.Machine.RealmObjects.{global, object_prototype}
 use Rattle.js_machine.specs.Machine.Realm.{realm}
+use Rattle.js_machine.specs.Machine.Creating.{function_state, prototype_state}
 
 -- after two calls of `inc`, each of which has made a scope without names
 abbrev pub counter_from : Heap → Heap

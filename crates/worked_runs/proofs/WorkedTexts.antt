@@ -8,12 +8,12 @@ use Rattle.js_value.specs.declared.why.Why.TheVariants.{MinusZero}
 use Rattle.js_tree.specs.Mentions.{hoisted_vars, hoisted_functions, free_names}
 use Rattle.js_tree.specs.Refusals.{place}
 use Rattle.plain_heap.specs.Heap.{resolve}
-use Rattle.js_machine.specs.ListingCases.{after_number, after_cycle, after_function, after_realm_changes}
+use Rattle.machine_cases.specs.ListingCases.{after_number, after_cycle, after_function, after_realm_changes}
 use Rattle.js_machine.specs.Machine.Listed.{queue_of, listing_by}
 use Rattle.js_machine.specs.Machine.Realm.{realm, realm_names, realm_name}
 use Rattle.js_machine.specs.Machine.RunText.{line, outcome_text, run_text}
 use Rattle.js_machine.specs.Machine.Walks.{Left}
-use Rattle.js_machine.specs.TextCases.{a_number_text, a_cycle_text, a_function_text, realm_changes_text, function_script}
+use Rattle.machine_cases.specs.TextCases.{a_number_text, a_cycle_text, a_function_text, realm_changes_text, function_script}
 use Rattle.script_text.specs.CodeLine.{add, code_text}
 use Rattle.script_text.specs.Printing.{function_to}
 use Rattle.worked_runs.specs.WorkedRuns.{WorkedRuns, nothing, sum_script, minus_zero_script, cycle_script, changes_script, counter_script, makers_script, inherited_setter_script, throwing_setter_script}

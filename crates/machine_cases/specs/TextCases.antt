@@ -8,8 +8,8 @@ use Rattle.js_tree.specs.declared.expression.ExprForm.TheVariants as e
 use Rattle.js_tree.specs.declared.statement.Script.{Script}
 use Rattle.js_tree.specs.declared.statement.StmtForm.TheVariants as s
 use Rattle.plain_heap.specs.Heap.{Heap}
-use Rattle.plain_heap.specs.Values.{Object, number, text}
-use Rattle.js_machine.specs.ListingCases.{rows, after_number, after_cycle, after_function, after_realm_changes, after_deletion, after_throw, after_array, after_capture}
+use Rattle.plain_heap.specs.Values.{Object, number, text, truth}
+use Rattle.machine_cases.specs.ListingCases.{rows, after_number, after_cycle, after_function, after_realm_changes, after_deletion, after_throw, after_array, after_capture}
 use Rattle.js_machine.specs.Machine.Listed.{listing_by, queue_of}
 use Rattle.js_machine.specs.Machine.Realm.{realm}
 use Rattle.js_machine.specs.Machine.RunText.{line, run_text, outcome_text}
@@ -28,10 +28,10 @@ abbrev pub text_with_name : Heap → List ℕ
 text_with_name h = run_text shown [] (queue_of (λ f. codes "n" ∷ []) h Normally) Normally (listing_by (λ f names. (f, names)) (λ f. codes "n" ∷ []) h Normally)
 
 abbrev pub now_call : HostEvent
-now_call = record { name = codes "now"; arguments = []; kind = kind.Number; answer = number 5 }
+now_call = record { name = codes "now"; arguments = []; kind = kind.Number; answer = number 5; threw = truth false }
 
 abbrev pub tick_call : HostEvent
-tick_call = record { name = codes "tick"; arguments = number 5 ∷ text (codes "a") ∷ []; kind = kind.Number; answer = number 9 }
+tick_call = record { name = codes "tick"; arguments = number 5 ∷ text (codes "a") ∷ []; kind = kind.Number; answer = number 9; threw = truth false }
 
 abbrev pub a_number_text : List ℕ
 a_number_text =

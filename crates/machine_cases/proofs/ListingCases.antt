@@ -2,7 +2,7 @@
 use Rattle.std.proofs.Common.{refl}
 use Rattle.js_value.specs.Conversions.{is_same_value}
 use Rattle.plain_heap.specs.Heap.{resolve}
-use Rattle.js_machine.specs.ListingCases.{ListingCases}
+use Rattle.machine_cases.specs.ListingCases.{ListingCases}
 use Rattle.js_machine.specs.Machine.Listed.{queue_of, listing_by}
 use Rattle.js_machine.specs.Machine.Realm.{realm}
 

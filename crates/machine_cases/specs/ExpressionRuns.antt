@@ -13,8 +13,8 @@ use Rattle.js_tree.specs.declared.statement.StmtForm.TheVariants as s
 use Rattle.js_tree.specs.Refusals.{place}
 use Rattle.js_tree.specs.Trees.{expr, stmt, no, declared, declarator, func, script}
 use Rattle.plain_heap.specs.Values.{undefined, null, truth, number, text}
-use Rattle.js_machine.specs.Machine.Numbers.{TypeError, ReferenceError}
-use Rattle.js_machine.specs.RunCases.{Values, ThrewError, LeavesAt, StepsSpent, minus, no_world, deep, bare, seen}
+use Rattle.js_machine.specs.Machine.RealmObjects.{TypeError, ReferenceError}
+use Rattle.machine_cases.specs.RunCases.{Values, ThrewError, LeavesAt, StepsSpent, minus, no_world, deep, bare, seen}
 use Rattle.js_machine.specs.Machine.Realm.{realm}
 
 -- var x = 1 + 2;

@@ -7,7 +7,7 @@ use Rattle.plain_heap.specs.Heap.{resolve}
 use Rattle.js_machine.specs.Machine.Listed.{queue_of, listing_by}
 use Rattle.js_machine.specs.Machine.Realm.{realm, realm_names, realm_name}
 use Rattle.js_machine.specs.Machine.RunText.{run_text}
-use Rattle.js_machine.specs.TextCases.{TextCases}
+use Rattle.machine_cases.specs.TextCases.{TextCases}
 use Rattle.js_tree.specs.Mentions.{hoisted_vars, hoisted_functions, free_names}
 use Rattle.script_text.specs.CodeLine.{add, code_text}
 use Rattle.script_text.specs.Printing.{function_to}

@@ -15,13 +15,13 @@ use Rattle.js_tree.specs.declared.statement.Script.{Script}
 use Rattle.js_tree.specs.declared.statement.StmtForm.TheVariants as s
 use Rattle.plain_heap.specs.Heap.{Heap}
 use Rattle.plain_heap.specs.Values.{Value, Input, Unary}
-use Rattle.js_machine.specs.Machine.Choices.{Opened, OpenEnded, Stopped, Leaves, Lacks, OpenOutOfSteps, Wanting, OpenRun, open_walk, open_steps}
+use Rattle.js_machine.specs.Machine.Choices.{Opened, OpenEnded, Stopped, OpenOutOfSteps, Wanting, OpenRun, open_walk, open_steps}
 use Rattle.js_machine.specs.Machine.Levels.{script_tree_within}
 use Rattle.js_machine.specs.Machine.Operators.{test}
-use Rattle.js_machine.specs.Machine.Trees.{Key, Tree, Step, Ask, Call, Leave, End}
+use Rattle.js_machine.specs.Machine.Events.{Key, Tree, Step, Ask, Call, Leave, End, Lacks, Leaves}
 use Rattle.js_machine.specs.Machine.Walks.{World}
 use Rattle.js_machine.specs.Machine.Worlds.{is_given}
-use Rattle.js_machine.specs.RunCases.{bare, deep}
+use Rattle.machine_cases.specs.RunCases.{bare, deep, given}
 
 -- along choices, with a budget of steps
 abbrev pub along : ℕ → Script → List Bool → ℕ → OpenRun
@@ -43,7 +43,7 @@ tested_again = script (stmt 0 (s.Eval (expr 0 (e.Conditional (flag 0) (number 29
 
 -- __residual("boolean", "a") === __residual("boolean", "a") ? 1 : 2;
 abbrev pub two_answers : Script
-two_answers = script (stmt 0 (s.Eval (expr 0 (e.Conditional (expr 0 (e.Binary binary.Same (expr 0 (e.HostCall kind.Boolean (codes "a") [])) (expr 31 (e.HostCall kind.Boolean (codes "a") [])))) (number 60 1) (number 64 2)))) ∷ []) []
+two_answers = given (script (stmt 0 (s.Eval (expr 0 (e.Conditional (expr 0 (e.Binary binary.Same (expr 0 (e.HostCall kind.Boolean (codes "a") [])) (expr 31 (e.HostCall kind.Boolean (codes "a") [])))) (number 60 1) (number 64 2))))) ∷ []) []
 
 -- __abstract("boolean", "b") === 1 ? 1 : 2;
 abbrev pub other_kind : Script

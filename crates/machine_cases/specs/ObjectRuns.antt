@@ -11,8 +11,8 @@ use Rattle.js_tree.specs.declared.statement.StmtForm.TheVariants as s
 use Rattle.js_tree.specs.Refusals.{place}
 use Rattle.js_tree.specs.Trees.{expr, stmt, no, declared, declarator, func, script}
 use Rattle.plain_heap.specs.Values.{undefined, null, truth, number, text}
-use Rattle.js_machine.specs.Machine.Numbers.{TypeError, RangeError}
-use Rattle.js_machine.specs.RunCases.{Values, ThrewError, LeavesAt, no_world, deep, seen}
+use Rattle.js_machine.specs.Machine.RealmObjects.{TypeError, RangeError}
+use Rattle.machine_cases.specs.RunCases.{Values, ThrewError, LeavesAt, no_world, deep, seen}
 use Rattle.js_machine.specs.Machine.Realm.{realm}
 
 -- var o = {a: 1}; var x = o.hasOwnProperty("a"), y = o.hasOwnProperty("toString");

@@ -1,18 +1,19 @@
 -- Listings of heaps, worked out by hand.
-use Rattle.std.specs.Prelude.{◌≡◌, true, false, if◌then◌else◌, map, List, [], ◌∷◌, ◌++◌, codes, Option, Some, None}
+use Rattle.std.specs.Prelude.{◌≡◌, true, false, if◌then◌else◌, map, List, [], ◌∷◌, ◌++◌, codes, Option, Some, None, unwrap_or}
 use Rattle.std.specs.Option.{option_map}
 use Rattle.js_value.specs.Conversions.{is_same_text}
 use Rattle.js_value.specs.declared.place.FuncNo.{FuncNo}
 use Rattle.js_tree.specs.Mentions.{Names}
 use Rattle.js_tree.specs.Trees.{no}
-use Rattle.plain_heap.specs.Heap.{Accessor, Array, new_cell, new_scope, Heap, Key, Property, Properties, ObjectState, Plain, data_property, add_object, object_at, set_object, without}
-use Rattle.plain_heap.specs.Methods.{length_key, or_value}
+use Rattle.plain_heap.specs.Heap.{Accessor, Array, new_cell, Heap, Key, Property, Properties, ObjectState, Plain, data_property, add_object, object_at, set_object, without}
+use Rattle.plain_heap.specs.Methods.{length_key}
 use Rattle.plain_heap.specs.Values.{Object, ObjNo, undefined, null, number}
 use Rattle.js_machine.specs.Machine.Listed.{AccessorLine, ArrayObject, CellRow, Listed, NewObject, RealmObject, DataLine, PlainObject, FunctionObject, Row, NewRow, RealmRow, listing_by}
-use Rattle.js_machine.specs.Machine.Numbers.{global, object_prototype, function_prototype, array_prototype}
-use Rattle.js_machine.specs.Machine.Objects.{function_state, prototype_state}
+use Rattle.js_machine.specs.Machine.RealmObjects.{global, object_prototype, function_prototype, array_prototype}
 use Rattle.js_machine.specs.Machine.Realm.{realm}
 use Rattle.js_machine.specs.Machine.Walks.{Ending, Normally, Thrown}
+use Rattle.machine_cases.specs.MethodCases.{depth_below}
+use Rattle.js_machine.specs.Machine.Creating.{function_state, prototype_state}
 
 -- where no function has free names; of its code a function shows its number and the free names that a scope binds
 abbrev pub rows : Heap → Ending → List (Row (FuncNo × Names))
@@ -26,7 +27,7 @@ abbrev pub added : ObjNo → Key → Property → Heap → Heap
 added o key p h = changed o (λ ps. ps ++ (key, p) ∷ []) h
 
 abbrev pub plain : Option ObjNo → Properties → ObjectState
-plain prototype properties = record { class = Plain; prototype = prototype; extensible = true; properties = properties }
+plain prototype properties = record { class = Plain; prototype = prototype; depth = depth_below prototype; extensible = true; properties = properties }
 
 -- a variable of global code that holds an object
 abbrev pub holding : Key → ObjNo → Heap → Heap
@@ -55,12 +56,12 @@ cycle_rows =
 
 abbrev pub after_function : Heap
 after_function =
-    add_object (plain (Some object_prototype) []) (add_object (prototype_state 41) (add_object (function_state (no 0) None 0 43) (holding (codes "p") 42 (holding (codes "F") 41 realm))))
+    add_object (plain (Some object_prototype) []) (add_object (prototype_state 41) (add_object (function_state (no 0) [] false 0 43) (holding (codes "p") 42 (holding (codes "F") 41 realm))))
 
 abbrev pub function_rows : List (Row (FuncNo × Names))
 function_rows =
     RealmRow global false [] [] (DataLine (codes "F") (NewObject 1) true true false ∷ DataLine (codes "p") (NewObject 2) true true false ∷ [])
-    ∷ NewRow 1 (FunctionObject (no 0, []) []) (RealmObject function_prototype) false
+    ∷ NewRow 1 (FunctionObject (no 0, []) false []) (RealmObject function_prototype) false
     (DataLine (codes "length") (Listed (number 0)) false false false ∷ DataLine (codes "prototype") (NewObject 3) true false false ∷ [])
     ∷ NewRow 2 PlainObject (RealmObject object_prototype) false (DataLine (codes "constructor") (NewObject 1) true false true ∷ [])
     ∷ NewRow 3 PlainObject (RealmObject object_prototype) false []
@@ -106,6 +107,7 @@ abbrev pub fixed_array : ObjectState
 fixed_array = record {
   class = Array;
   prototype = Some array_prototype;
+  depth = 2;
   extensible = false;
   properties =
       (length_key, data_property (number 1) true false false)
@@ -126,12 +128,12 @@ array_rows =
 -- outer function is left out, and a second free name is one of the global object
 
 abbrev pub after_capture : Heap
-after_capture = new_scope None ((codes "n", 0) ∷ []) (new_cell (number 1) (add_object (prototype_state 41) (add_object (function_state (no 0) (Some 0) 0 42) (holding (codes "f") 41 realm))))
+after_capture = new_cell (number 1) (add_object (prototype_state 41) (add_object (function_state (no 0) ((codes "n", 0) ∷ []) false 0 42) (holding (codes "f") 41 realm)))
 
 abbrev pub capture_rows : List (Row (FuncNo × Names))
 capture_rows =
     RealmRow global false [] [] (DataLine (codes "f") (NewObject 1) true true false ∷ [])
-    ∷ NewRow 1 (FunctionObject (no 0, codes "n" ∷ []) (1 ∷ [])) (RealmObject function_prototype) false
+    ∷ NewRow 1 (FunctionObject (no 0, codes "n" ∷ []) false (1 ∷ [])) (RealmObject function_prototype) false
     (DataLine (codes "length") (Listed (number 0)) false false false ∷ DataLine (codes "prototype") (NewObject 2) true false false ∷ [])
     ∷ NewRow 2 PlainObject (RealmObject object_prototype) false (DataLine (codes "constructor") (NewObject 1) true false true ∷ [])
     ∷ CellRow 1 (Listed (number 1))

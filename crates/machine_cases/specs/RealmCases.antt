@@ -10,11 +10,11 @@ use Rattle.js_tree.specs.declared.statement.StmtForm.TheVariants as s
 use Rattle.js_tree.specs.Refusals.{place}
 use Rattle.js_tree.specs.Trees.{expr, stmt, declarator, script}
 use Rattle.plain_heap.specs.Values.{number}
-use Rattle.js_machine.specs.Machine.Numbers.{TypeError, RangeError, ReferenceError}
-use Rattle.js_machine.specs.RunCases.{Values, LeavesAt, StepsSpent, no_world, bare, seen}
+use Rattle.js_machine.specs.Machine.RealmObjects.{TypeError, RangeError, ReferenceError}
+use Rattle.machine_cases.specs.RunCases.{Values, LeavesAt, StepsSpent, no_world, bare, seen}
 use Rattle.js_machine.specs.Machine.Realm.{realm}
 use Rattle.plain_heap.specs.Valid.{is_valid}
-use Rattle.js_machine.specs.Machine.Numbers.{global, object_prototype, function_prototype, array_prototype, error_prototype}
+use Rattle.js_machine.specs.Machine.RealmObjects.{global, object_prototype, function_prototype, array_prototype, error_prototype}
 use Rattle.js_machine.specs.Machine.Realm.{realm_count, realm_name}
 
 abbrev pub three_more : ℕ → ℕ

@@ -3,16 +3,16 @@ use Rattle.std.specs.Prelude.{◌≡◌, ℕ, pos, true, false, [], ◌∷◌, c
 use Rattle.js_value.specs.declared.operator.BinaryOp.TheVariants as binary
 use Rattle.js_value.specs.declared.operator.UnaryOp.TheVariants as unary
 use Rattle.js_value.specs.declared.primitive.Primitive.TheVariants as primitive
-use Rattle.js_value.specs.declared.why.Why.TheVariants.{NotANumber, NumberSpelling, ObjectToPrimitive}
+use Rattle.js_value.specs.declared.why.Why.TheVariants.{NotANumber, NumberSpelling}
 use Rattle.js_tree.specs.declared.expression.ExprForm.TheVariants as e
 use Rattle.js_tree.specs.declared.expression.Field.TheVariants as field
 use Rattle.js_tree.specs.declared.statement.Script.{Script}
 use Rattle.js_tree.specs.declared.statement.StmtForm.TheVariants as s
 use Rattle.js_tree.specs.Refusals.{place}
 use Rattle.js_tree.specs.Trees.{expr, stmt, no, declared, declarator, func, script}
-use Rattle.plain_heap.specs.Values.{undefined, truth, number, text}
-use Rattle.js_machine.specs.Machine.Numbers.{TypeError, RangeError}
-use Rattle.js_machine.specs.RunCases.{Values, ThrewError, LeavesAt, StepsSpent, minus, no_world, deep, bare, seen}
+use Rattle.plain_heap.specs.Values.{truth, number, text}
+use Rattle.js_machine.specs.Machine.RealmObjects.{RangeError}
+use Rattle.machine_cases.specs.RunCases.{Values, ThrewError, LeavesAt, no_world, deep, bare, seen}
 use Rattle.js_machine.specs.Machine.Realm.{realm}
 
 -- var x = Array.isArray([]), y = Array.isArray({length: 0}), z = Array.isArray(Array.prototype);

@@ -14,7 +14,7 @@ use Rattle.js_tree.specs.declared.statement.StmtForm.TheVariants as s
 use Rattle.js_tree.specs.Refusals.{place}
 use Rattle.js_tree.specs.Trees.{expr, stmt, no, declared, declarator, func, clause, handler, final, script}
 use Rattle.plain_heap.specs.Values.{undefined, truth, number, text}
-use Rattle.js_machine.specs.RunCases.{Values, Threw, LeavesAt, StepsSpent, no_world, deep, bare, seen}
+use Rattle.machine_cases.specs.RunCases.{Values, Threw, LeavesAt, StepsSpent, no_world, deep, bare, seen}
 use Rattle.js_machine.specs.Machine.Realm.{realm}
 
 -- var x = typeof y; var y = 1;

@@ -7,10 +7,16 @@ use Rattle.js_tree.specs.declared.statement.Script.{Script}
 use Rattle.plain_heap.specs.Heap.{Heap, Key, ObjectState, Plain, Property, Data, Accessor, lookup}
 use Rattle.plain_heap.specs.Values.{Value, Prim, Object, ObjNo}
 use Rattle.js_machine.specs.Machine.Levels.{script_tree_within}
-use Rattle.js_machine.specs.Machine.Numbers.{ErrorKind, TypeError, RangeError, ReferenceError, error_prototype, global, object_prototype}
+use Rattle.js_machine.specs.Machine.RealmObjects.{ErrorKind, TypeError, RangeError, ReferenceError, error_prototype, global, object_prototype}
 use Rattle.js_machine.specs.Machine.ObjectBuiltins.{properties_of}
 use Rattle.js_machine.specs.Machine.Objects.{prototype_of}
 use Rattle.js_machine.specs.Machine.Walks.{World, Outcome, Ended, Left, OutOfSteps, Unknown, Normally, Thrown, walk}
+use Rattle.js_value.specs.declared.primitive.Primitive.{Primitive}
+use Rattle.machine_cases.specs.MethodCases.{depth_below}
+
+-- an answer that is given
+abbrev pub given : Primitive → Answer
+given value = record { value = value; threw = false }
 
 abbrev pub no_world : World
 no_world = record { inputs = []; answers = [] }
@@ -59,10 +65,10 @@ seen start keys most w script n = look_at keys (walk w n [] (script_tree_within 
 
 -- a realm whose objects have no properties, for cases that need none
 abbrev pub bare_object : Option ObjNo → ObjectState
-bare_object prototype = record { class = Plain; prototype = prototype; extensible = true; properties = [] }
+bare_object prototype = record { class = Plain; prototype = prototype; depth = depth_below prototype; extensible = true; properties = [] }
 
 abbrev pub bare : Heap
-bare = record { objects = bare_object (Some object_prototype) ∷ replicate 14 (bare_object None); cells = []; scopes = [] }
+bare = record { objects = bare_object (Some object_prototype) ∷ replicate 14 (bare_object None); cells = [] }
 
 -- thirty more than a number: cases hold for every number of nodes that are allowed beyond thirty
 abbrev pub ten_more : ℕ → ℕ

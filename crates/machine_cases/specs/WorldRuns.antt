@@ -9,8 +9,8 @@ use Rattle.js_tree.specs.declared.statement.Script.{Script}
 use Rattle.js_tree.specs.declared.statement.StmtForm.TheVariants as s
 use Rattle.js_tree.specs.Trees.{expr, stmt, declarator, script}
 use Rattle.plain_heap.specs.Values.{number, text}
-use Rattle.js_machine.specs.Machine.Numbers.{ReferenceError}
-use Rattle.js_machine.specs.RunCases.{Values, ThrewError, LeavesAt, no_world, deep, bare, seen}
+use Rattle.js_machine.specs.Machine.RealmObjects.{ReferenceError}
+use Rattle.machine_cases.specs.RunCases.{Values, ThrewError, LeavesAt, no_world, deep, bare, seen, given}
 
 -- var x = __abstract("number", "n") + 1;
 abbrev pub input : Script
@@ -48,8 +48,8 @@ pub record WorldRuns : Type 0 where
   pub input_run : (d : ℕ) → seen bare (codes "x" ∷ []) (deep d) (record { inputs = (codes "n", primitive.Number (pos 4)) ∷ []; answers = [] }) input 200 ≡ Values (Some (number 5) ∷ [])
   pub no_input_run : (d : ℕ) → seen bare [] (deep d) (record { inputs = (codes "m", primitive.Number (pos 4)) ∷ []; answers = [] }) no_input 200 ≡ LeavesAt NoInput 8
   pub input_kind_run : (d : ℕ) → seen bare [] (deep d) (record { inputs = (codes "n", primitive.Text (codes "a")) ∷ []; answers = [] }) input_kind 200 ≡ LeavesAt InputKind 8
-  pub host_call_run : (d : ℕ) → seen bare (codes "x" ∷ codes "y" ∷ []) (deep d) (record { inputs = []; answers = primitive.Number (pos 7) ∷ primitive.Text (codes "c") ∷ [] }) host_call 200 ≡ Values (Some (number 7) ∷ Some (text (codes "c")) ∷ [])
-  pub no_answer_run : (d : ℕ) → seen bare [] (deep d) (record { inputs = []; answers = primitive.Number (pos 7) ∷ [] }) no_answer 200 ≡ LeavesAt NoAnswer 39
-  pub answer_kind_run : (d : ℕ) → seen bare [] (deep d) (record { inputs = []; answers = primitive.Boolean true ∷ [] }) answer_kind 200 ≡ LeavesAt AnswerKind 8
+  pub host_call_run : (d : ℕ) → seen bare (codes "x" ∷ codes "y" ∷ []) (deep d) (record { inputs = []; answers = given (primitive.Number (pos 7)) ∷ given (primitive.Text (codes "c")) ∷ [] }) host_call 200 ≡ Values (Some (number 7) ∷ Some (text (codes "c")) ∷ [])
+  pub no_answer_run : (d : ℕ) → seen bare [] (deep d) (record { inputs = []; answers = given (primitive.Number (pos 7)) ∷ [] }) no_answer 200 ≡ LeavesAt NoAnswer 39
+  pub answer_kind_run : (d : ℕ) → seen bare [] (deep d) (record { inputs = []; answers = given (primitive.Boolean true) ∷ [] }) answer_kind 200 ≡ LeavesAt AnswerKind 8
   pub host_argument_run : (d : ℕ) → seen bare [] (deep d) no_world host_argument 200 ≡ LeavesAt HostArgument 0
   pub host_arguments_first_run : (d : ℕ) → seen bare [] (deep d) no_world host_arguments_first 200 ≡ ThrewError ReferenceError

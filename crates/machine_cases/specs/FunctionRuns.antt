@@ -11,8 +11,8 @@ use Rattle.js_tree.specs.declared.statement.StmtForm.TheVariants as s
 use Rattle.js_tree.specs.Refusals.{place}
 use Rattle.js_tree.specs.Trees.{expr, stmt, no, declared, declarator, func, handler, script}
 use Rattle.plain_heap.specs.Values.{undefined, truth, number, text}
-use Rattle.js_machine.specs.Machine.Numbers.{TypeError}
-use Rattle.js_machine.specs.RunCases.{Values, ThrewError, LeavesAt, no_world, deep, bare, seen}
+use Rattle.js_machine.specs.Machine.RealmObjects.{TypeError}
+use Rattle.machine_cases.specs.RunCases.{Values, ThrewError, LeavesAt, no_world, deep, bare, seen}
 use Rattle.js_machine.specs.Machine.Realm.{realm}
 
 -- function make() { var n = 0; return { inc: function () { n = n + 1; return n; }, get: function () { return n; } }; } var c = make(); c.inc(); c.inc(); var x = c.get();
