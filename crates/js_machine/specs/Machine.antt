@@ -11,6 +11,7 @@ pub mod ObjectBuiltins
 pub mod ArrayBuiltins
 pub mod Realm
 pub mod Levels
+pub mod Renumbered
 pub mod Walks
 pub mod Worlds
 pub mod Choices

@@ -1,5 +1,5 @@
 -- How cases of runs are said: what a script comes to in a world, as far as a case looks at it.
-use Rattle.std.specs.Prelude.{ℕ, suc, nat_eq, neg_ℤ, pos, true, replicate, if◌then◌else◌, List, [], ◌∷◌, map, Option, Some, None}
+use Rattle.std.specs.Prelude.{ℕ, suc, nat_eq, neg_ℤ, pos, true, false, replicate, if◌then◌else◌, List, [], ◌∷◌, map, Option, Some, None}
 use Rattle.std.specs.Option.{option_and_then}
 use Rattle.js_value.specs.declared.primitive.Primitive.TheVariants as primitive
 use Rattle.js_value.specs.declared.why.Why.{Why}
@@ -10,7 +10,7 @@ use Rattle.js_machine.specs.Machine.Levels.{script_tree_within}
 use Rattle.js_machine.specs.Machine.RealmObjects.{ErrorKind, TypeError, RangeError, ReferenceError, error_prototype, global, object_prototype}
 use Rattle.js_machine.specs.Machine.ObjectBuiltins.{properties_of}
 use Rattle.js_machine.specs.Machine.Objects.{prototype_of}
-use Rattle.js_machine.specs.Machine.Walks.{World, Outcome, Ended, Left, OutOfSteps, Unknown, Normally, Thrown, walk}
+use Rattle.js_machine.specs.Machine.Walks.{Answer, World, Outcome, Ended, Left, OutOfSteps, Unknown, Normally, Thrown, walk}
 use Rattle.js_value.specs.declared.primitive.Primitive.{Primitive}
 use Rattle.machine_cases.specs.MethodCases.{depth_below}
 

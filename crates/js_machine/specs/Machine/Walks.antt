@@ -14,7 +14,7 @@ use Rattle.js_machine.specs.Machine.Levels.{script_tree}
 use Rattle.js_machine.specs.Machine.Realm.{realm}
 use Rattle.js_machine.specs.Machine.Events.{Tree, Step, Turn, Ask, Input, Call, Spent, End, Fail, Lacks, Leaves, StopKind, Stop}
 use Rattle.js_tree.specs.declared.statement.Func.{Func}
-use Rattle.js_tree.specs.Renumbered.{script_behind}
+use Rattle.js_machine.specs.Machine.Renumbered.{script_behind}
 use Rattle.js_value.specs.Numbers.{is_safe}
 
 -- the answer to a host call: a value, which the call gives or throws
