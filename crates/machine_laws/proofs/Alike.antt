@@ -4,23 +4,22 @@ use Rattle.std.specs.Prelude.{Result, Ok, Err}
 use Rattle.js_value.specs.declared.place.Place.{Place}
 use Rattle.js_value.specs.declared.primitive.Kind.{Kind}
 use Rattle.js_value.specs.declared.why.Why.{Why}
-use Rattle.plain_heap.specs.Values.{Value}
+use Rattle.plain_heap.specs.Values.{Value, Symbol}
 use Rattle.plain_heap.specs.Heap.{Heap}
-use Rattle.js_machine.specs.Machine.Expressions.{Flow}
-use Rattle.js_machine.specs.Machine.Trees.{Need, Tree, Step, Turn, Ask, Input, Call, Leave, Needs, End, Fail}
-use Rattle.js_machine.specs.Machine.Trees.{Run, ◌>>=◌, give, throw, leave, need, change, look, step, turn, ask, take_input, call_host, choose, or_leave, in_turn, each, Next, repeat, catching}
+use Rattle.js_machine.specs.Machine.Expressions.{Completion}
+use Rattle.js_machine.specs.Machine.Events.{StopKind, Leaves, Tree, Step, Turn, Ask, Input, Call, Stop, End, Fail}
+use Rattle.js_machine.specs.Machine.Events.{Run, ◌>>=◌, give, throw, stop, leave, change, make, look, step, turn, ask, take_input, call_host, choose, or_stop, or_leave, in_turn, each, Next, repeat, catching}
 
 -- A relation between trees of events where so many steps may be taken, which every event keeps.
 pub record TreeRelation : Type 1 where
   pub Related : ℕ → Tree → Tree → Type 0
   pub steps : (n : ℕ) (at : Place) (t u : Tree) → ((j : ℕ) → j < n → Related j t u) → Related n (Step at t) (Step at u)
   pub turns : (n : ℕ) (at : Place) (t u : Tree) → ((j : ℕ) → j < n → Related j t u) → Related n (Turn at t) (Turn at u)
-  pub asks : (n : ℕ) (at : Place) (v : Value) (f g : Bool → Tree) → ((b : Bool) → Related n (f b) (g b)) → Related n (Ask at v f) (Ask at v g)
+  pub asks : (n : ℕ) (at : Place) (symbol : Symbol) (f g : Bool → Tree) → ((b : Bool) → Related n (f b) (g b)) → Related n (Ask at symbol f) (Ask at symbol g)
   pub inputs : (n : ℕ) (at : Place) (k : Kind) (name : List ℕ) (f g : Value → Tree) → ((v : Value) → Related n (f v) (g v)) → Related n (Input at k name f) (Input at k name g)
-  pub calls : (n : ℕ) (at : Place) (k : Kind) (name : List ℕ) (arguments : List Value) (f g : Value → Tree) → ((v : Value) → Related n (f v) (g v))
+  pub calls : (n : ℕ) (at : Place) (k : Kind) (name : List ℕ) (arguments : List Value) (f g : Value → Value → Tree) → ((v threw : Value) → Related n (f v threw) (g v threw))
       → Related n (Call at k name arguments f) (Call at k name arguments g)
-  pub leaves : (n : ℕ) (why : Why) (at : Place) → Related n (Leave why at) (Leave why at)
-  pub wants : (n : ℕ) (what : Need) (at : Place) → Related n (Needs what at) (Needs what at)
+  pub stops : (n : ℕ) (why : StopKind) (at : Place) → Related n (Stop why at) (Stop why at)
   pub ends : (n : ℕ) (s : Heap) → Related n (End s) (End s)
   pub fails : (n : ℕ) (v : Value) (s : Heap) → Related n (Fail v s) (Fail v s)
 
@@ -79,14 +78,17 @@ module _ (w : TreeRelation) where
   pub throws : {A : Type 0} (v : Value) → Alike (throw {A = A} v) (throw v)
   throws v = record { at = λ i s k l d e kept caught. caught.at i (here i) v s }
 
-  pub left_at : {A : Type 0} (why : Why) (at : Place) → Alike (leave {A = A} why at) (leave why at)
-  left_at why at = record { at = λ i s k l d e kept caught. w.leaves i why at }
+  pub stops_at : {A : Type 0} (why : StopKind) (at : Place) → Alike (stop {A = A} why at) (stop why at)
+  stops_at why at = record { at = λ i s k l d e kept caught. w.stops i why at }
 
-  pub needs : {A : Type 0} (what : Need) (at : Place) → Alike (need {A = A} what at) (need what at)
-  needs what at = record { at = λ i s k l d e kept caught. w.wants i what at }
+  pub left_at : {A : Type 0} (why : Why) (at : Place) → Alike (leave {A = A} why at) (leave why at)
+  left_at why at = stops_at (Leaves why) at
 
   pub changes : (f : Heap → Heap) → Alike (change f) (change f)
   changes f = record { at = λ i s k l d e kept caught. kept.at i (here i) tt (f s) }
+
+  pub makes : {A : Type 0} (f : Heap → A × Heap) → Alike (make f) (make f)
+  makes f = record { at = λ i s k l d e kept caught. kept.at i (here i) (f s).0 (f s).1 }
 
   pub looks : {A : Type 0} (f : Heap → A) → Alike (look f) (look f)
   looks f = record { at = λ i s k l d e kept caught. kept.at i (here i) (f s) s }
@@ -102,14 +104,14 @@ module _ (w : TreeRelation) where
   pub takes_turn : (at : Place) → Alike (turn at) (turn at)
   takes_turn at = record { at = λ i s k l d e kept caught. w.turns i at (k tt s) (l tt s) (λ j below. kept.at j (omega (arith, below)) tt s) }
 
-  pub asks : (at : Place) (v : Value) → Alike (ask at v) (ask at v)
-  asks at v = record { at = λ i s k l d e kept caught. w.asks i at v (λ b. k b s) (λ b. l b s) (λ b. kept.at i (here i) b s) }
+  pub asks : (at : Place) (symbol : Symbol) → Alike (ask at symbol) (ask at symbol)
+  asks at symbol = record { at = λ i s k l d e kept caught. w.asks i at symbol (λ b. k b s) (λ b. l b s) (λ b. kept.at i (here i) b s) }
 
   pub takes_input : (at : Place) (kind : Kind) (name : List ℕ) → Alike (take_input at kind name) (take_input at kind name)
   takes_input at kind name = record { at = λ i s k l d e kept caught. w.inputs i at kind name (λ v. k v s) (λ v. l v s) (λ v. kept.at i (here i) v s) }
 
   pub calls_host : (at : Place) (kind : Kind) (name : List ℕ) (arguments : List Value) → Alike (call_host at kind name arguments) (call_host at kind name arguments)
-  calls_host at kind name arguments = record { at = λ i s k l d e kept caught. w.calls i at kind name arguments (λ v. k v s) (λ v. l v s) (λ v. kept.at i (here i) v s) }
+  calls_host at kind name arguments = record { at = λ i s k l d e kept caught. w.calls i at kind name arguments (λ v threw. k (v, threw) s) (λ v threw. l (v, threw) s) (λ v threw. kept.at i (here i) (v, threw) s) }
 
   -- ---- choices, lists, and what is thrown
 
@@ -120,6 +122,10 @@ module _ (w : TreeRelation) where
   pub tests : {A : Type 0} {m n p q : Run A} (b : Bool) → Alike m n → Alike p q → Alike (cond b m p) (cond b n q)
   tests true h l = h
   tests false h l = l
+
+  pub or_stops : {A : Type 0} (at : Place) (r : Result A StopKind) → Alike (or_stop at r) (or_stop at r)
+  or_stops at (Ok a) = gives a
+  or_stops at (Err why) = stops_at why at
 
   pub or_leaves : {A : Type 0} (at : Place) (r : Result A Why) → Alike (or_leave at r) (or_leave at r)
   or_leaves at (Ok a) = gives a
@@ -142,4 +148,4 @@ module _ (w : TreeRelation) where
 
   -- with so many turns and with so many, where a step is taken in each turn
   pub record LoopsAlike (turns more : ℕ) : Type 0 where
-    pub at : {once again : Run (Next Flow)} → Stepped once again → Alike (repeat turns once) (repeat more again)
+    pub at : {once again : Run (Next Completion)} → Stepped once again → Alike (repeat turns once) (repeat more again)

@@ -9,13 +9,13 @@ use Rattle.plain_heap.specs.Heap.{Array}
 use Rattle.plain_heap.specs.Methods.{length_key}
 use Rattle.js_machine.specs.Machine.ArrayBuiltins as B
 use Rattle.js_machine.specs.Machine.Expressions.{is_callable}
-use Rattle.js_machine.specs.Machine.Functions.{argument}
-use Rattle.js_machine.specs.Machine.Numbers.{TypeError, array_prototype}
-use Rattle.js_machine.specs.Machine.Trees.{Run}
+use Rattle.js_machine.specs.Machine.RealmObjects.{TypeError, array_prototype}
+use Rattle.js_machine.specs.Machine.Events.{Run}
 use Rattle.machine_laws.proofs.Alike.{TreeRelation, Alike, bind, gives, looks, takes_turn, chooses}
-use Rattle.machine_laws.proofs.AlikeObjects.{CallsAlike, site_of, make_object_too, throw_error_too, test_too, to_string_too, to_list_length_too, to_position_too, plus_too, same_value_too, to_object_too}
+use Rattle.machine_laws.proofs.AlikeObjects.{CallsAlike, site_of, make_with_too, throw_error_too, test_too, to_string_too, to_list_length_too, to_position_too, plus_too, same_value_too, to_object_too}
 use Rattle.machine_laws.proofs.AlikeObjects.{get_too, put_too, delete_too, make_property_too, has_property_too}
 use Rattle.machine_laws.proofs.AlikeBuiltins.{RuleAlike}
+use Rattle.js_machine.specs.Machine.Creating.{argument}
 
 module _ (w : TreeRelation) (at : Place) where
   separator_too : (v : Value) → Alike w (B.separator at v) (B.separator at v)
@@ -118,7 +118,7 @@ module _ (w : TreeRelation) where
   pub concat_too : RuleAlike w B.concat
   unfolding B.concat
   concat_too = record {
-    at = λ at calls this arguments. bind w (to_object_too w at this) (λ o. bind w (make_object_too w Array array_prototype) (λ array.
+    at = λ at calls this arguments. bind w (to_object_too w at this) (λ o. bind w (make_with_too w Array array_prototype) (λ array.
         bind w (append_items_too w at calls array 0 (Object o ∷ arguments)) (λ _. gives w (Object array))));
   }
 
@@ -140,7 +140,7 @@ module _ (w : TreeRelation) where
   pub slice_too : RuleAlike w B.slice
   unfolding B.slice
   slice_too = record {
-    at = λ at calls this arguments. bind w (to_object_too w at this) (λ o. bind w (make_object_too w Array array_prototype) (λ array. bind w (length_of_too w at calls o) (λ l.
+    at = λ at calls this arguments. bind w (to_object_too w at this) (λ o. bind w (make_with_too w Array array_prototype) (λ array. bind w (length_of_too w at calls o) (λ l.
         bind w (to_position_too w at (argument arguments 0)) (λ start. bind w (end_position_too w at l (argument arguments 1)) (λ end.
         bind w (append_elements_too w at calls array 0 o (end - B.position_in l start) (B.position_in l start)) (λ _.
         bind w (put_too w at calls array length_key (number (end - B.position_in l start)) true) (λ _. gives w (Object array))))))));
@@ -161,7 +161,7 @@ module _ (w : TreeRelation) where
   unfolding B.map_rule
   map_too = record {
     at = λ at {call} {other} calls this arguments. bind w (to_object_too w at this) (λ o. bind w (length_of_too w at calls o) (λ l. bind w (callback_too w (argument arguments 0)) (λ _.
-        bind w (make_object_too w Array array_prototype) (λ array. bind w (put_too w at calls array length_key (number l) true) (λ _.
+        bind w (make_with_too w Array array_prototype) (λ array. bind w (put_too w at calls array length_key (number l) true) (λ _.
         bind w (visit_too w at calls o arguments (B.put_answer (site_of at call) array) (B.put_answer (site_of at other) array) (λ k v answer a. make_property_too w at calls array (decimal k) answer) l 0 tt)
         (λ _. gives w (Object array)))))));
   }
@@ -170,6 +170,6 @@ module _ (w : TreeRelation) where
   unfolding B.filter_rule
   filter_too = record {
     at = λ at {call} {other} calls this arguments. bind w (to_object_too w at this) (λ o. bind w (length_of_too w at calls o) (λ l. bind w (callback_too w (argument arguments 0)) (λ _.
-        bind w (make_object_too w Array array_prototype) (λ array.
+        bind w (make_with_too w Array array_prototype) (λ array.
         bind w (visit_too w at calls o arguments (B.keep (site_of at call) array) (B.keep (site_of at other) array) (keep_too w at calls array) l 0 0) (λ _. gives w (Object array))))));
   }

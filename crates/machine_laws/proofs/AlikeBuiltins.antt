@@ -1,24 +1,24 @@
 -- The built-ins of objects, functions and errors do alike, where the calls of values do.
 use Rattle.std.proofs.Common.{ℕ, zero, suc, ◌+◌, Bool, true, false, List, [], ◌∷◌}
-use Rattle.std.specs.Prelude.{◌&&◌, not, length, codes, drop, unsigned_abs, is_some, Option, Some, None}
+use Rattle.std.specs.Prelude.{◌++◌, ◌&&◌, not, codes, drop, unsigned_abs, is_some, Option, Some, None, unwrap_or}
 use Rattle.std.specs.Fmt.{decimal}
 use Rattle.std.specs.Option.{option_map}
 use Rattle.js_value.specs.declared.place.Place.{Place}
 use Rattle.js_value.specs.declared.primitive.Primitive.TheVariants as primitive
 use Rattle.js_value.specs.declared.why.Why.TheVariants.{BuiltinArgument}
 use Rattle.plain_heap.specs.Values.{Value, Prim, Object, ObjNo, undefined, text, truth, object_or_null}
-use Rattle.plain_heap.specs.Heap.{Key, Property, Properties, Plain, Array, is_enumerable, is_function, add_object}
-use Rattle.plain_heap.specs.Methods.{Descriptor, data_fields, length_key, or_value, is_accessor, is_data}
+use Rattle.plain_heap.specs.Heap.{Key, Property, Properties, Plain, Array, is_enumerable, is_function, make_object}
+use Rattle.plain_heap.specs.Methods.{Descriptor, data_fields, length_key, is_accessor, is_data}
 use Rattle.js_machine.specs.Machine.Expressions.{is_callable}
-use Rattle.js_machine.specs.Machine.Functions.{argument}
-use Rattle.js_machine.specs.Machine.Numbers.{TypeError, object_prototype, array_prototype}
+use Rattle.js_machine.specs.Machine.RealmObjects.{TypeError, object_prototype, array_prototype}
 use Rattle.js_machine.specs.Machine.ObjectBuiltins as B
 use Rattle.js_machine.specs.Machine.ObjectBuiltins.{Rule}
 use Rattle.js_machine.specs.Machine.Objects as objects
-use Rattle.js_machine.specs.Machine.Trees.{Run}
-use Rattle.machine_laws.proofs.Alike.{TreeRelation, Alike, bind, gives, left_at, changes, looks, takes_turn, chooses, in_turns}
-use Rattle.machine_laws.proofs.AlikeObjects.{CallsAlike, site_of, make_object_too, throw_error_too, test_too, to_key_too, to_string_too, to_list_length_too, to_object_too, present_too}
+use Rattle.js_machine.specs.Machine.Events.{Run}
+use Rattle.machine_laws.proofs.Alike.{TreeRelation, Alike, bind, gives, left_at, changes, looks, takes_turn, chooses, in_turns, makes}
+use Rattle.machine_laws.proofs.AlikeObjects.{CallsAlike, site_of, make_with_too, throw_error_too, test_too, to_key_too, to_string_too, to_list_length_too, to_object_too, present_too}
 use Rattle.machine_laws.proofs.AlikeObjects.{get_too, define_too, make_property_too, get_own_property_too, has_property_too}
+use Rattle.js_machine.specs.Machine.Creating.{argument}
 
 module _ (w : TreeRelation) where
   pub object_argument_too : (v : Value) → Alike w (B.object_argument v) (B.object_argument v)
@@ -33,10 +33,6 @@ module _ (w : TreeRelation) where
   no_properties_too : (at : Place) (v : Value) → Alike w (B.no_properties at v) (B.no_properties at v)
   no_properties_too at (Prim primitive.Undefined) = gives w tt
   no_properties_too at v = left_at w BuiltinArgument at
-
-  make_with_too : (prototype : Option ObjNo) → Alike w (B.make_with prototype) (B.make_with prototype)
-  make_with_too prototype = bind w (looks w (λ h. length h.objects))
-      (λ o. bind w (changes w (add_object (record { class = Plain; prototype = prototype; extensible = true; properties = [] }))) (λ _. gives w o))
 
   function_or_undefined_too : (v : Option Value) → Alike w (B.function_or_undefined v) (B.function_or_undefined v)
   function_or_undefined_too None = gives w None
@@ -67,7 +63,7 @@ module _ (w : TreeRelation) (at : Place) {call other : Value → Value → List 
   from_descriptor_too : (p : Option Property) → Alike w (B.from_descriptor (site_of at call) p) (B.from_descriptor (site_of at other) p)
   unfolding B.from_descriptor
   from_descriptor_too None = gives w undefined
-  from_descriptor_too (Some p) = bind w (make_object_too w Plain object_prototype) (λ o. bind w (in_turns w (make_field_too o) (B.fields_of p)) (λ _. gives w (Object o)))
+  from_descriptor_too (Some p) = bind w (make_with_too w Plain object_prototype) (λ o. bind w (in_turns w (make_field_too o) (B.fields_of p)) (λ _. gives w (Object o)))
 
   field_too : (o : ObjNo) (key : Key) → Alike w (B.field (site_of at call) o key) (B.field (site_of at other) o key)
   field_too o key = bind w (has_property_too w at calls o key) (λ there. chooses w there (bind w (get_too w at calls o key) (λ v. gives w (Some v))) (gives w None))
@@ -106,14 +102,14 @@ module _ (w : TreeRelation) (at : Place) {call other : Value → Value → List 
 
   -- ---- 15.3.4
 
-  items_from_too : (o left n : ℕ) → Alike w (B.items_from (site_of at call) o left n) (B.items_from (site_of at other) o left n)
-  items_from_too o zero n = gives w []
-  items_from_too o (suc left) n = bind w (takes_turn w at) (λ _. bind w (get_too w at calls o (decimal n)) (λ v. bind w (items_from_too o left (n + 1)) (λ vs. gives w (v ∷ vs))))
+  items_from_too : (o left n : ℕ) (so_far : List Value) → Alike w (B.items_from (site_of at call) o left n so_far) (B.items_from (site_of at other) o left n so_far)
+  items_from_too o zero n so_far = gives w so_far
+  items_from_too o (suc left) n so_far = bind w (takes_turn w at) (λ _. bind w (get_too w at calls o (decimal n)) (λ v. items_from_too o left (n + 1) (so_far ++ (v ∷ []))))
 
   items_too : (v : Value) → Alike w (B.items (site_of at call) v) (B.items (site_of at other) v)
   items_too (Prim primitive.Undefined) = gives w []
   items_too (Prim primitive.Null) = gives w []
-  items_too v = bind w (object_argument_too w v) (λ o. bind w (get_too w at calls o length_key) (λ l. bind w (to_list_length_too w at l) (λ n. items_from_too o (unsigned_abs n) 0)))
+  items_too v = bind w (object_argument_too w v) (λ o. bind w (get_too w at calls o length_key) (λ l. bind w (to_list_length_too w at l) (λ n. items_from_too o (unsigned_abs n) 0 [])))
 
   -- ---- 15.11
 
@@ -158,7 +154,7 @@ module _ (w : TreeRelation) where
   unfolding B.create
   create_too = record {
     at = λ at calls this arguments. bind w (prototype_argument_too w (argument arguments 0)) (λ prototype. bind w (no_properties_too w at (argument arguments 1)) (λ _.
-        bind w (make_with_too w prototype) (λ o. gives w (Object o))));
+        bind w (makes w (make_object Plain prototype)) (λ o. gives w (Object o))));
   }
 
   pub define_property_too : RuleAlike w B.define_property
@@ -212,7 +208,7 @@ module _ (w : TreeRelation) where
   unfolding B.keys
   keys_too = record {
     at = λ at calls this arguments. bind w (object_argument_too w (argument arguments 0)) (λ o. bind w (looks w (B.properties_of o)) (λ ps.
-        bind w (make_object_too w Array array_prototype) (λ array. bind w (list_keys_too w at calls array 0 ps) (λ _. gives w (Object array)))));
+        bind w (make_with_too w Array array_prototype) (λ array. bind w (list_keys_too w at calls array 0 ps) (λ _. gives w (Object array)))));
   }
 
   pub nothing_too : RuleAlike w B.nothing
@@ -235,5 +231,5 @@ module _ (w : TreeRelation) where
   pub make_error_too : (prototype : ObjNo) → RuleAlike w (B.make_error prototype)
   unfolding B.make_error
   make_error_too prototype = record {
-    at = λ at calls this arguments. bind w (make_object_too w Plain prototype) (λ o. bind w (with_message_too w at calls o (argument arguments 0)) (λ _. gives w (Object o)));
+    at = λ at calls this arguments. bind w (make_with_too w Plain prototype) (λ o. bind w (with_message_too w at calls o (argument arguments 0)) (λ _. gives w (Object o)));
   }

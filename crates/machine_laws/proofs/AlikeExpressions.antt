@@ -1,6 +1,6 @@
 -- The rules of expressions do alike, where the evaluation of their parts does.
 use Rattle.std.proofs.Common.{◌≡◌, ℕ, ◌+◌, true, false, List, [], ◌∷◌, subst}
-use Rattle.std.specs.Prelude.{length, slice_get, codes, Option, Some, None, Result}
+use Rattle.std.specs.Prelude.{codes, Option, Some, None, Result}
 use Rattle.std.specs.Fmt.{decimal}
 use Rattle.std.specs.List.{list_any}
 use Rattle.js_value.specs.Operators.{binary_row, unary_row}
@@ -21,36 +21,24 @@ use Rattle.js_tree.specs.declared.expression.ExprForm.TheOpen.{ExprForm-F, Field
 use Rattle.js_tree.specs.declared.expression.LogicOp.{LogicOp}
 use Rattle.js_tree.specs.declared.expression.LogicOp.TheVariants as logic
 use Rattle.js_tree.specs.declared.expression.StepOp.{StepOp}
-use Rattle.js_tree.specs.declared.statement.Func.{Func}
-use Rattle.js_tree.specs.declared.statement.Name.{Name}
 use Rattle.js_tree.specs.declared.statement.Stmt.{Stmt}
-use Rattle.plain_heap.specs.Values.{Value, Prim, Object, ObjNo, ScopeNo, undefined, number, truth}
-use Rattle.plain_heap.specs.Heap.{Key, new_cell, new_scope, set_cell}
+use Rattle.plain_heap.specs.Values.{Value, Prim, Object, ObjNo, undefined, number, truth}
+use Rattle.plain_heap.specs.Heap.{Key}
 use Rattle.plain_heap.specs.Methods.{value_field, length_key}
 use Rattle.js_machine.specs.Machine.Expressions as E
 use Rattle.js_machine.specs.Machine.Expressions.{Ev}
-use Rattle.js_machine.specs.Machine.Names.{Context, Reference, NameReference, PropertyReference, Nowhere}
-use Rattle.js_machine.specs.Machine.Numbers.{TypeError, ReferenceError, object_prototype, array_prototype}
+use Rattle.js_machine.specs.Machine.References.{Context, Reference, NameReference, PropertyReference, Nowhere}
+use Rattle.js_machine.specs.Machine.RealmObjects.{TypeError, ReferenceError, object_prototype, array_prototype}
 use Rattle.js_machine.specs.Machine.Objects as objects
 use Rattle.js_machine.specs.Machine.Operators as operators
-use Rattle.js_machine.specs.Machine.Trees.{Run, each}
+use Rattle.js_machine.specs.Machine.Events.{◌>>=◌, Run, each, make, give}
 use Rattle.plain_heap.specs.Heap.{Plain, Array}
-use Rattle.machine_laws.proofs.Alike.{TreeRelation, Alike, Stepped, LoopsAlike, bind, plainly, gives, left_at, changes, looks, takes_input, calls_host, chooses, tests, in_turns, eaches}
-use Rattle.machine_laws.proofs.AlikeObjects.{CallsAlike, site_of, make_object_too, throw_error_too, make_function_too, test_too, to_key_too, operate_too, operate_one_too, check_base_too}
+use Rattle.machine_laws.proofs.Alike.{TreeRelation, Alike, Stepped, LoopsAlike, bind, plainly, gives, left_at, looks, takes_input, calls_host, chooses, tests, in_turns, eaches, makes, throws}
+use Rattle.machine_laws.proofs.AlikeObjects.{CallsAlike, site_of, make_with_too, throw_error_too, test_too, to_key_too, operate_too, operate_one_too, check_base_too}
 use Rattle.machine_laws.proofs.AlikeObjects.{get_too, define_too, make_property_too, has_property_too, delete_of_too, resolve_name_too, get_value_too, put_value_too}
+use Rattle.js_machine.specs.Machine.Creating.{function_expression, function}
 
 module _ (w : TreeRelation) where
-  -- ---- functions, scopes and cells that rules make
-
-  pub function_too : (functions : List Func) (f : FuncNo) (scope : Option ScopeNo) → Alike w (E.function functions f scope) (E.function functions f scope)
-  function_too functions f scope = make_function_too w f scope _
-
-  pub make_scope_too : (outer : Option ScopeNo) (names : List (List ℕ × ℕ)) → Alike w (E.make_scope outer names) (E.make_scope outer names)
-  make_scope_too outer names = bind w (looks w (λ h. length h.scopes)) (λ s. bind w (changes w (new_scope outer names)) (λ _. gives w s))
-
-  pub make_cell_too : (v : Value) → Alike w (E.make_cell v) (E.make_cell v)
-  make_cell_too v = bind w (looks w (λ h. length h.cells)) (λ c. bind w (changes w (new_cell v)) (λ _. gives w c))
-
   is_instance_too : (v x : Value) → Alike w (E.is_instance v x) (E.is_instance v x)
   is_instance_too (Object o) (Object prototype) = bind w (looks w (objects.is_prototype_of prototype o)) (λ is. gives w (truth is))
   is_instance_too v x = throw_error_too w TypeError
@@ -90,11 +78,11 @@ module _ (w : TreeRelation) (at : Place) {call other : Value → Value → List 
   binary_value_too op a b = by_row_too op a b (binary_row op)
 
   delete_reference_too : (r : Reference) → Alike w (E.delete_reference (site_of at call) r) (E.delete_reference (site_of at other) r)
-  delete_reference_too (PropertyReference base key) = bind w (delete_of_too w at calls base key) (λ done. gives w (truth done))
-  delete_reference_too (NameReference name b) = gives w (truth false)
+  delete_reference_too (PropertyReference base key strict) = bind w (delete_of_too w at calls base key strict) (λ done. gives w (truth done))
+  delete_reference_too (NameReference name b strict) = gives w (truth false)
 
   value_or_undefined_too : (r : Reference) → Alike w (E.value_or_undefined (site_of at call) r) (E.value_or_undefined (site_of at other) r)
-  value_or_undefined_too (NameReference name Nowhere) = gives w undefined
+  value_or_undefined_too (NameReference name Nowhere strict) = gives w undefined
   value_or_undefined_too r = get_value_too w at calls r
 
 -- Two ways to evaluate parts: both take a step where a node is evaluated, and loops do alike where their turns do.
@@ -107,29 +95,19 @@ pub record PartsAlike (w : TreeRelation) (ev other : Ev) : Type 0 where
   pub functions : ev.functions ≡ other.functions
   pub loops : LoopsAlike w ev.turns other.turns
 
-module _ (w : TreeRelation) {ev other : Ev} (a : PartsAlike w ev other) where
+module _ (w : TreeRelation) {ev other : Ev} (a : PartsAlike w ev other) (context : Context) where
   -- ---- functions as values
 
-  function_by : {functions others : List Func} → functions ≡ others → (f : FuncNo) (scope : Option ScopeNo) → Alike w (E.function functions f scope) (E.function others f scope)
-  function_by {functions = functions} e f scope = subst (λ others. Alike w (E.function functions f scope) (E.function others f scope)) e (function_too w functions f scope)
-
-  own_named_too : (f : FuncNo) (scope : Option ScopeNo) (name : List ℕ) → Alike w (E.own_named ev f scope name) (E.own_named other f scope name)
-  own_named_too f scope name = bind w (make_cell_too w undefined) (λ c. bind w (make_scope_too w scope ((name, c) ∷ [])) (λ s.
-      bind w (function_by a.functions f (Some s)) (λ o. bind w (changes w (set_cell c (Object o))) (λ _. gives w o))))
-
-  named_too : (f : FuncNo) (scope : Option ScopeNo) (name : Option Name) → Alike w (E.named ev f scope name) (E.named other f scope name)
-  named_too f scope None = function_by a.functions f scope
-  named_too f scope (Some name) = own_named_too f scope name.text
-
-  object_too : {m n : Run ObjNo} → Alike w m n → Alike w (E.object m) (E.object n)
-  object_too h = bind w h (λ o. gives w (Object o))
-
-module _ (w : TreeRelation) {ev other : Ev} (a : PartsAlike w ev other) (context : Context) where
   function_rule_too : (f : FuncNo) → Alike w (E.function_rule ev context f) (E.function_rule other context f)
   unfolding E.function_rule
   function_rule_too f =
-      subst (λ functions. Alike w (E.object (E.named ev f context.scope (E.name_of (slice_get ev.functions f.0)))) (E.object (E.named other f context.scope (E.name_of (slice_get functions f.0)))))
-      a.functions (object_too w a (named_too w a f context.scope (E.name_of (slice_get ev.functions f.0))))
+      subst (λ functions. Alike w (E.function_rule ev context f) (make (function_expression functions f context.environment context.strict) >>= (λ o. give (Object o))))
+      a.functions (bind w (makes w (function_expression ev.functions f context.environment context.strict)) (λ o. gives w (Object o)))
+
+  accessor_function_too : (f : FuncNo) → Alike w (E.accessor_function ev context f) (E.accessor_function other context f)
+  accessor_function_too f =
+      subst (λ functions. Alike w (make (function ev.functions f context.environment context.strict)) (make (function functions f context.environment context.strict)))
+      a.functions (makes w (function ev.functions f context.environment context.strict))
 
   -- ---- parts
 
@@ -153,30 +131,30 @@ module _ (w : TreeRelation) {ev other : Ev} (a : PartsAlike w ev other) (context
 
   array_rule_too : (es : List (Option Expr)) → Alike w (E.array_rule ev context at es) (E.array_rule other context at es)
   unfolding E.array_rule
-  array_rule_too es = bind w (make_object_too w Array array_prototype) (λ o. bind w (elements_too o 0 es) (λ _. gives w (Object o)))
+  array_rule_too es = bind w (make_with_too w Array array_prototype) (λ o. bind w (elements_too o 0 es) (λ _. gives w (Object o)))
 
   field_rule_too : (o : ObjNo) (f : Field-F ExprForm Field Expr) → Alike w (E.field_rule ev context at o f) (E.field_rule other context at o f)
   unfolding E.field_rule
   field_rule_too o (Field-F.Value key_at key e) = bind w (expr_too w a context e) (λ v. make_property_too w at (a.call at) o key v)
   field_rule_too o (Field-F.Getter key_at key f) =
-      bind w (function_by w a a.functions f context.scope) (λ g. define_too w at (a.call at) o key (E.accessor_fields (Some (Some g)) None) false)
+      bind w (accessor_function_too w a context f) (λ g. define_too w at (a.call at) o key (E.accessor_fields (Some (Some g)) None) false)
   field_rule_too o (Field-F.Setter key_at key f) =
-      bind w (function_by w a a.functions f context.scope) (λ g. define_too w at (a.call at) o key (E.accessor_fields None (Some (Some g))) false)
+      bind w (accessor_function_too w a context f) (λ g. define_too w at (a.call at) o key (E.accessor_fields None (Some (Some g))) false)
 
   object_rule_too : (fields : List Field) → Alike w (E.object_rule ev context at fields) (E.object_rule other context at fields)
   unfolding E.object_rule
-  object_rule_too fields = bind w (make_object_too w Plain object_prototype) (λ o. bind w (in_turns w (λ f. field_rule_too o (out-Field f)) fields) (λ _. gives w (Object o)))
+  object_rule_too fields = bind w (make_with_too w Plain object_prototype) (λ o. bind w (in_turns w (λ f. field_rule_too o (out-Field f)) fields) (λ _. gives w (Object o)))
 
   -- ---- 11.2
 
   member_reference_too : (object : Expr) (key : Key) → Alike w (E.member_reference ev context at object key) (E.member_reference other context at object key)
   unfolding E.member_reference
-  member_reference_too object key = bind w (expr_too w a context object) (λ base. bind w (check_base_too w at base) (λ _. gives w (PropertyReference base key)))
+  member_reference_too object key = bind w (expr_too w a context object) (λ base. bind w (check_base_too w at base) (λ _. gives w (PropertyReference base key context.strict)))
 
   index_reference_too : (object index : Expr) → Alike w (E.index_reference ev context at object index) (E.index_reference other context at object index)
   unfolding E.index_reference
   index_reference_too object index = bind w (expr_too w a context object) (λ base. bind w (expr_too w a context index) (λ name.
-      bind w (check_base_too w at base) (λ _. bind w (to_key_too w at name) (λ key. gives w (PropertyReference base key)))))
+      bind w (check_base_too w at base) (λ _. bind w (to_key_too w at name) (λ key. gives w (PropertyReference base key context.strict)))))
 
   member_rule_too : (object : Expr) (key : Key) → Alike w (E.member_rule ev context at object key) (E.member_rule other context at object key)
   unfolding E.member_rule
@@ -257,10 +235,13 @@ module _ (w : TreeRelation) {ev other : Ev} (a : PartsAlike w ev other) (context
   unfolding E.comma_rule
   comma_rule_too x y = bind w (expr_too w a context x) (λ _. expr_too w a context y)
 
+  answered_too : (answer : Value × Value) → Alike w (E.answered at answer) (E.answered at answer)
+  answered_too answer = bind w (test_too w at answer.1) (λ threw. chooses w threw (throws w answer.0) (gives w answer.0))
+
   host_rule_too : (kind : Kind) (name : List ℕ) (arguments : List Expr) → Alike w (E.host_rule ev context at kind name arguments) (E.host_rule other context at kind name arguments)
   unfolding E.host_rule
   host_rule_too kind name arguments = bind w (values_too w a context arguments) (λ values.
-      tests w (list_any operators.is_object values) (left_at w HostArgument at) (calls_host w at kind name values))
+      tests w (list_any operators.is_object values) (left_at w HostArgument at) (bind w (calls_host w at kind name values) answered_too))
 
   -- ---- all forms
 

@@ -1,6 +1,6 @@
 -- Runs of a script do alike with two bounds on turns, where loops do.
 use Rattle.std.proofs.Common.{ℕ, zero, suc, List, refl}
-use Rattle.std.specs.Prelude.{Option, Some, None}
+use Rattle.std.specs.Prelude.{Option, Some, None, Bool}
 use Rattle.js_value.specs.declared.place.Place.{Place}
 use Rattle.js_value.specs.declared.why.Why.TheVariants.{Depth}
 use Rattle.js_tree.specs.declared.expression.Expr.{Expr}
@@ -12,12 +12,12 @@ use Rattle.js_tree.specs.declared.statement.StmtForm.{out-StmtForm}
 use Rattle.plain_heap.specs.Values.{Value, Object, ObjNo}
 use Rattle.plain_heap.specs.Heap.{Class, Heap, Function, Builtin}
 use Rattle.js_machine.specs.Machine.Levels as L
-use Rattle.js_machine.specs.Machine.Levels.{Setting, Nodes, Builtins, within, ev_of, builtin, call_rule, construct_rule, script_tree}
-use Rattle.js_machine.specs.Machine.Names.{Context, global_context}
-use Rattle.js_machine.specs.Machine.Numbers.{TypeError}
+use Rattle.js_machine.specs.Machine.Levels.{Setting, Nodes, Builtins, within, ev_of, builtin, perform_call, perform_construct, script_tree}
+use Rattle.js_machine.specs.Machine.References.{Context, global_context}
+use Rattle.js_machine.specs.Machine.RealmObjects.{TypeError}
 use Rattle.js_machine.specs.Machine.ObjectBuiltins.{Rule}
 use Rattle.js_machine.specs.Machine.Realm.{builtin_rule, constructor_rule}
-use Rattle.js_machine.specs.Machine.Trees.{Run}
+use Rattle.js_machine.specs.Machine.Events.{Run}
 use Rattle.machine_laws.proofs.Alike.{TreeRelation, Alike, Stepped, LoopsAlike, bind, plainly, left_at, looks, takes_step}
 use Rattle.machine_laws.proofs.AlikeObjects.{CallsAlike, site_of, throw_error_too}
 use Rattle.machine_laws.proofs.AlikeExpressions.{PartsAlike, expr_rule_too, reference_rule_too}
@@ -45,31 +45,31 @@ module _ (w : TreeRelation) {builtins other : Builtins} (h : BuiltinsAlike w bui
 
   construct_class_too : (at : Place) {call calls : Value → Value → List Value → Run Value} → CallsAlike w call calls → (o : ObjNo) (arguments : List Value) (class : Class)
       → Alike w (L.construct_class (site_of at call) builtins o arguments class) (L.construct_class (site_of at calls) other o arguments class)
-  construct_class_too at c o arguments (Function f scope) = construct_function_too w at c o arguments
+  construct_class_too at c o arguments (Function f names strict) = construct_function_too w at c o arguments
   construct_class_too at c o arguments (Builtin n) = run_rule_too at (Object o) arguments (constructor_rule n) (constructor_rule_too w n)
   construct_class_too at c o arguments class = throw_error_too w TypeError
 
   pub construct_rule_too : {call calls : Place → Value → Value → List Value → Run Value} → ((at : Place) → CallsAlike w (call at) (calls at)) → (at : Place) (f : Value) (arguments : List Value)
-      → Alike w (construct_rule call builtins at f arguments) (construct_rule calls other at f arguments)
-  unfolding construct_rule
+      → Alike w (perform_construct call builtins at f arguments) (perform_construct calls other at f arguments)
+  unfolding perform_construct
   construct_rule_too c at (Object o) arguments = bind w (looks w (L.class_of o)) (λ class. construct_class_too at (c at) o arguments class)
   construct_rule_too c at f arguments = throw_error_too w TypeError
 
 module _ (w : TreeRelation) (functions : List Func) (turns more : ℕ) where
   call_class_too : {nodes others : Nodes} {builtins other : Builtins} → NodesAlike w nodes others → BuiltinsAlike w builtins other → (at : Place) (this : Value) (arguments : List Value) (class : Class)
       → Alike w (L.call_class (setting functions turns) nodes builtins at this arguments class) (L.call_class (setting functions more) others other at this arguments class)
-  call_class_too n b at this arguments (Function f scope) = call_function_too w (λ context x. plainly w (n.stmt context x)) functions at scope this arguments f
+  call_class_too n b at this arguments (Function f names strict) = call_function_too w (λ context x. plainly w (n.stmt context x)) functions at names strict this arguments f
   call_class_too n b at this arguments (Builtin m) = run_rule_too w b at this arguments (builtin_rule m) (builtin_rule_too w m)
   call_class_too n b at this arguments class = throw_error_too w TypeError
 
   call_value_too : {nodes others : Nodes} {builtins other : Builtins} → NodesAlike w nodes others → BuiltinsAlike w builtins other → (at : Place) (f this : Value) (arguments : List Value)
-      → Alike w (call_rule (setting functions turns) nodes builtins at f this arguments) (call_rule (setting functions more) others other at f this arguments)
-  unfolding call_rule
+      → Alike w (perform_call (setting functions turns) nodes builtins at f this arguments) (perform_call (setting functions more) others other at f this arguments)
+  unfolding perform_call
   call_value_too n b at (Object o) this arguments = bind w (looks w (L.class_of o)) (λ class. call_class_too n b at this arguments class)
   call_value_too n b at f this arguments = throw_error_too w TypeError
 
   call_rule_too : {nodes others : Nodes} {builtins other : Builtins} → NodesAlike w nodes others → BuiltinsAlike w builtins other → (at : Place)
-      → CallsAlike w (call_rule (setting functions turns) nodes builtins at) (call_rule (setting functions more) others other at)
+      → CallsAlike w (perform_call (setting functions turns) nodes builtins at) (perform_call (setting functions more) others other at)
   call_rule_too n b at = record { at = λ f this arguments. call_value_too n b at f this arguments }
 
   builtin_too : {nodes others : ℕ → Nodes} → ((calls : ℕ) → NodesAlike w (nodes calls) (others calls)) → (calls : ℕ)
@@ -105,13 +105,13 @@ module _ (w : TreeRelation) (functions : List Func) (turns more : ℕ) where
       stmt = λ context x. takes_step w x.at (stmt_rule_too w (parts_too (within_too depth) calls) context x.at (out-StmtForm x.form));
     }
 
-    global_code_too : (most : ℕ) (body : List Stmt) → Alike w (L.global_code (setting functions turns) most body) (L.global_code (setting functions more) most body)
-    global_code_too most body = bind w (enter_global_too w L.beginning ((parts_too (within_too most) most).call L.beginning) functions body)
-        (λ _. statements_too w (λ x. plainly w ((within_too most most).stmt global_context x)) body)
+    global_code_too : (most : ℕ) (strict : Bool) (body : List Stmt) → Alike w (L.global_code (setting functions turns) most strict body) (L.global_code (setting functions more) most strict body)
+    global_code_too most strict body = bind w (enter_global_too w L.beginning ((parts_too (within_too most) most).call L.beginning) functions strict body)
+        (λ _. statements_too w (λ x. plainly w ((within_too most most).stmt (global_context strict) x)) body)
 
 -- the trees of a script with two bounds on turns
 pub script_trees : (w : TreeRelation) (script : Script) (turns more : ℕ) → LoopsAlike w turns more
     → (n : ℕ) (h : Heap) → w.Related n (script_tree turns script h) (script_tree more script h)
 unfolding script_tree
-script_trees w script turns more loops n h = (global_code_too w script.funcs turns more loops L.most_active script.body).at n h _ _ _ _
-    (record { at = λ j le flow s. w.ends j s }) (record { at = λ j le v s. w.fails j v s })
+script_trees w script turns more loops n h = (global_code_too w script.funcs turns more loops L.most_active script.directive script.body).at n h _ _ _ _
+    (record { at = λ j le completion s. w.ends j s }) (record { at = λ j le v s. w.fails j v s })

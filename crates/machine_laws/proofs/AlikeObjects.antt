@@ -1,31 +1,31 @@
 -- Conversions, operators and the internal methods of objects do alike, where the calls of values do.
-use Rattle.std.proofs.Common.{ℕ, ◌+◌, Bool, true, false, List, [], ◌∷◌}
-use Rattle.std.specs.Prelude.{◌&&◌, ◌||◌, not, ℤ, length, slice_get, Option, Some, None, Result, Ok, Err}
+use Rattle.std.proofs.Common.{ℕ, Bool, true, false, List, [], ◌∷◌}
+use Rattle.std.specs.Prelude.{◌&&◌, not, slice_get, Option, Some, None, Result}
 use Rattle.std.specs.Option.{option_and_then}
-use Rattle.js_value.specs.Conversions.{is_same_text, to_boolean, to_number, to_uint32, to_integer}
+use Rattle.js_value.specs.Conversions.{is_same_text, to_boolean}
 use Rattle.js_value.specs.Operators.{add}
 use Rattle.js_value.specs.declared.operator.BinaryOp.{BinaryOp}
 use Rattle.js_value.specs.declared.operator.BinaryOp.TheVariants as binary
 use Rattle.js_value.specs.declared.operator.UnaryOp.{UnaryOp}
 use Rattle.js_value.specs.declared.operator.UnaryOp.TheVariants as unary
-use Rattle.js_value.specs.declared.place.FuncNo.{FuncNo}
 use Rattle.js_value.specs.declared.place.Place.{Place}
 use Rattle.js_value.specs.declared.primitive.Primitive.{Primitive}
 use Rattle.js_value.specs.declared.primitive.Primitive.TheVariants as primitive
 use Rattle.js_value.specs.declared.why.Why.{Why}
-use Rattle.js_value.specs.declared.why.Why.TheVariants.{ObjectToPrimitive, AbsentBuiltin, PrimitiveProperty, PrimitiveThis}
-use Rattle.plain_heap.specs.Values.{Value, Prim, Object, Absent, Unary, Binary, ObjNo, ScopeNo, text}
-use Rattle.plain_heap.specs.Heap.{Key, Class, Plain, ObjectState, is_array, is_function, new_object, object_at, set_object, add_object, resolve}
+use Rattle.js_value.specs.declared.why.Why.TheVariants.{AbsentBuiltin, PrimitiveProperty, PrimitiveThis}
+use Rattle.plain_heap.specs.Values.{Value, Prim, Object, Absent, Unary, ObjNo, Symbolic, Symbol}
+use Rattle.plain_heap.specs.Heap.{Key, Class, Plain, ObjectState, is_function, object_at, set_object, resolve}
 use Rattle.plain_heap.specs.Methods.{Descriptor, data_fields, checked_key, Got, GotValue, CallGetter, Putting, Refuse, Define, CallSetter, Defining, Defined, Rejected, BadLength, IfSame, array_index, length_key}
 use Rattle.plain_heap.specs.Methods as methods
-use Rattle.js_machine.specs.Machine.Numbers.{ErrorKind, TypeError, RangeError, ReferenceError, error_prototype, global}
-use Rattle.js_machine.specs.Machine.Names as names
-use Rattle.js_machine.specs.Machine.Names.{Context, Reference, InCell, OnGlobal, Nowhere, NameReference, PropertyReference}
+use Rattle.js_machine.specs.Machine.RealmObjects.{ErrorKind, TypeError, RangeError, ReferenceError, error_prototype, global}
+use Rattle.js_machine.specs.Machine.References as names
+use Rattle.js_machine.specs.Machine.References.{Context, Reference, InCell, OnGlobal, Nowhere, NameReference, PropertyReference}
 use Rattle.js_machine.specs.Machine.Objects as objects
 use Rattle.js_machine.specs.Machine.Objects.{Site}
 use Rattle.js_machine.specs.Machine.Operators as operators
-use Rattle.js_machine.specs.Machine.Trees.{Need, Base, Length, Argument, Key as KeyNeed, Run}
-use Rattle.machine_laws.proofs.Alike.{TreeRelation, Alike, bind, gives, throws, left_at, needs, changes, looks, asks, chooses, tests, or_leaves}
+use Rattle.js_machine.specs.Machine.Events.{Base, Run, Lacks}
+use Rattle.machine_laws.proofs.Alike.{TreeRelation, Alike, bind, gives, throws, left_at, changes, looks, asks, chooses, tests, or_leaves, makes, stops_at, or_stops}
+use Rattle.js_machine.specs.Machine.Operators.{Sameness, Told, Asked}
 
 abbrev pub site_of : Place → (Value → Value → List Value → Run Value) → Site
 site_of at call = record { at = at; call = call }
@@ -33,11 +33,11 @@ site_of at call = record { at = at; call = call }
 module _ (w : TreeRelation) where
   -- ---- objects that rules make
 
-  pub make_object_too : (class : Class) (prototype : ObjNo) → Alike w (objects.make_object class prototype) (objects.make_object class prototype)
-  make_object_too class prototype = bind w (looks w (λ h. length h.objects)) (λ o. bind w (changes w (new_object class (Some prototype))) (λ _. gives w o))
+  pub make_with_too : (class : Class) (prototype : ObjNo) → Alike w (objects.make_with class prototype) (objects.make_with class prototype)
+  make_with_too class prototype = makes w _
 
   pub throw_error_too : {A : Type 0} (kind : ErrorKind) → Alike w (objects.throw_error {A = A} kind) (objects.throw_error kind)
-  throw_error_too kind = bind w (make_object_too Plain (error_prototype kind)) (λ o. throws w (Object o))
+  throw_error_too kind = bind w (make_with_too Plain (error_prototype kind)) (λ o. throws w (Object o))
 
   reject_too : (throws : Bool) → Alike w (objects.reject throws) (objects.reject throws)
   reject_too throws = chooses w throws (throw_error_too TypeError) (gives w tt)
@@ -46,99 +46,60 @@ module _ (w : TreeRelation) where
   deleted_too o throws (Some state) = bind w (changes w (set_object o state)) (λ _. gives w true)
   deleted_too o throws None = chooses w throws (throw_error_too TypeError) (gives w false)
 
-  pub make_function_too : (f : FuncNo) (scope : Option ScopeNo) (parameters : ℕ) → Alike w (objects.make_function f scope parameters) (objects.make_function f scope parameters)
-  unfolding objects.make_function
-  make_function_too f scope parameters = bind w (looks w (λ h. length h.objects))
-      (λ o. bind w (changes w (λ h. add_object (objects.prototype_state o) (add_object (objects.function_state f scope parameters (o + 1)) h))) (λ _. gives w o))
-
 module _ (w : TreeRelation) (at : Place) where
   -- ---- conversions and operators
+
+  test_symbol_too : (s : Symbol) → Alike w (operators.test_symbol at s) (operators.test_symbol at s)
+  unfolding operators.test_symbol
+  test_symbol_too (Unary unary.Not s) = bind w (test_symbol_too s) (λ b. gives w (not b))
+  test_symbol_too s = asks w at s
 
   pub test_too : (v : Value) → Alike w (operators.test at v) (operators.test at v)
   unfolding operators.test
   test_too (Prim p) = gives w (to_boolean p)
   test_too (Object o) = gives w true
-  test_too (Unary unary.Not s) = bind w (test_too s) (λ b. gives w (not b))
-  test_too s = asks w at s
+  test_too Absent = left_at w AbsentBuiltin at
+  test_too (Symbolic s) = test_symbol_too s
 
   pub to_string_too : (v : Value) → Alike w (operators.to_string at v) (operators.to_string at v)
   unfolding operators.to_string
-  to_string_too (Prim p) = gives w _
-  to_string_too (Object o) = left_at w ObjectToPrimitive at
-  to_string_too s = gives w _
+  to_string_too v = or_leaves w at _
 
   pub to_key_too : (v : Value) → Alike w (operators.to_key at v) (operators.to_key at v)
   unfolding operators.to_key
-  to_key_too (Prim p) = gives w _
-  to_key_too (Object o) = left_at w ObjectToPrimitive at
-  to_key_too s = needs w KeyNeed at
-
-  number_too : (convert : Primitive → Result ℤ Why) (what : Need) (v : Value) → Alike w (operators.number_by convert what at v) (operators.number_by convert what at v)
-  number_too convert what (Prim p) = or_leaves w at (convert p)
-  number_too convert what (Object o) = left_at w ObjectToPrimitive at
-  number_too convert what s = needs w what at
+  to_key_too v = or_stops w at _
 
   to_length_too : (v : Value) → Alike w (operators.to_length at v) (operators.to_length at v)
-  to_length_too v = number_too to_number Length v
+  unfolding operators.to_length
+  to_length_too v = or_stops w at _
 
   pub to_list_length_too : (v : Value) → Alike w (operators.to_list_length at v) (operators.to_list_length at v)
-  to_list_length_too v = number_too to_uint32 Length v
+  unfolding operators.to_list_length
+  to_list_length_too v = or_stops w at _
 
   pub to_position_too : (v : Value) → Alike w (operators.to_position at v) (operators.to_position at v)
-  to_position_too v = number_too to_integer Argument v
-
-  object_equals_too : (a b : Value) → Alike w (operators.object_equals at a b) (operators.object_equals at a b)
-  object_equals_too (Object m) (Object n) = gives w _
-  object_equals_too (Prim primitive.Undefined) _ = gives w false
-  object_equals_too (Prim primitive.Null) _ = gives w false
-  object_equals_too _ (Prim primitive.Undefined) = gives w false
-  object_equals_too _ (Prim primitive.Null) = gives w false
-  object_equals_too _ _ = left_at w ObjectToPrimitive at
-
-  to_number_first_too : (op : BinaryOp) (v : Value) → Alike w (operators.to_number_first op at v) (operators.to_number_first op at v)
-  to_number_first_too op (Prim p) = tests w (operators.takes_numbers op) (bind w (or_leaves w at (to_number p)) (λ _. left_at w ObjectToPrimitive at)) (left_at w ObjectToPrimitive at)
-  to_number_first_too op _ = left_at w ObjectToPrimitive at
-
-  on_objects_too : (op : BinaryOp) (a b : Value) → Alike w (operators.on_objects at op a b) (operators.on_objects at op a b)
-  unfolding operators.on_objects
-  on_objects_too binary.Same a b = gives w _
-  on_objects_too binary.NotSame a b = gives w _
-  on_objects_too binary.Equal a b = bind w (object_equals_too a b) (λ t. gives w _)
-  on_objects_too binary.NotEqual a b = bind w (object_equals_too a b) (λ t. gives w _)
-  on_objects_too op a b = to_number_first_too op a
-
-  entry_too : (r : Result Primitive Why) → Alike w (operators.entry at r) (operators.entry at r)
-  entry_too (Ok p) = gives w _
-  entry_too (Err why) = left_at w why at
+  unfolding operators.to_position
+  to_position_too v = or_stops w at _
 
   pub operate_too : (op : BinaryOp) (row : Primitive → Primitive → Result Primitive Why) (a b : Value) → Alike w (operators.operate at op row a b) (operators.operate at op row a b)
   unfolding operators.operate
-  operate_too op row (Prim a) (Prim b) = entry_too (row a b)
-  operate_too op row a b = tests w (operators.is_object a || operators.is_object b) (on_objects_too op a b) (gives w (operators.on_symbols op a b))
+  operate_too op row a b = or_leaves w at _
 
   pub plus_too : (a b : Value) → Alike w (operators.plus at a b) (operators.plus at a b)
   unfolding operators.plus
   plus_too a b = operate_too binary.Add add a b
 
-  unary_on_object_too : (op : UnaryOp) (o : ObjNo) → Alike w (operators.unary_on_object at op o) (operators.unary_on_object at op o)
-  unfolding operators.unary_on_object
-  unary_on_object_too unary.TypeOf o = bind w (looks w (λ h. is_function h o)) (λ f. gives w (text (operators.object_type_text f)))
-  unary_on_object_too unary.Void o = gives w _
-  unary_on_object_too unary.Not o = gives w _
-  unary_on_object_too op o = left_at w ObjectToPrimitive at
-
   pub operate_one_too : (op : UnaryOp) (row : Primitive → Result Primitive Why) (v : Value) → Alike w (operators.operate_one at op row v) (operators.operate_one at op row v)
   unfolding operators.operate_one
-  operate_one_too op row (Prim a) = entry_too (row a)
-  operate_one_too op row (Object o) = unary_on_object_too op o
-  operate_one_too op row s = gives w _
+  operate_one_too op row v = bind w (looks w is_function) (λ is_callable. or_leaves w at (operators.operated_one is_callable op row v))
+
+  ask_unless_told_too : (same : Sameness) → Alike w (operators.ask_unless_told at same) (operators.ask_unless_told at same)
+  ask_unless_told_too (Told same) = gives w same
+  ask_unless_told_too (Asked symbol) = asks w at symbol
 
   pub same_value_too : (a b : Value) → Alike w (operators.same_value at a b) (operators.same_value at a b)
   unfolding operators.same_value
-  same_value_too Absent b = left_at w AbsentBuiltin at
-  same_value_too a Absent = left_at w AbsentBuiltin at
-  same_value_too a b = tests w (operators.is_same a b) (gives w true)
-      (tests w ((operators.is_symbol a || operators.is_symbol b) && operators.is_same_type (operators.value_type a) (operators.value_type b)) (asks w at (Binary binary.Same a b)) (gives w false))
+  same_value_too a b = bind w (or_leaves w at _) ask_unless_told_too
 
   -- ---- values as bases of properties
 
@@ -147,7 +108,8 @@ module _ (w : TreeRelation) (at : Place) where
   check_base_too (Prim primitive.Null) = throw_error_too w TypeError
   check_base_too (Prim p) = gives w tt
   check_base_too (Object o) = gives w tt
-  check_base_too s = needs w Base at
+  check_base_too Absent = left_at w AbsentBuiltin at
+  check_base_too (Symbolic s) = stops_at w (Lacks Base) at
 
   unit_of_too : (t : List ℕ) (unit : Option ℕ) → Alike w (objects.unit_of at t unit) (objects.unit_of at t unit)
   unit_of_too t None = left_at w PrimitiveProperty at
@@ -193,8 +155,8 @@ module _ (w : TreeRelation) (at : Place) {call other : Value → Value → List 
   defining_too o throws BadLength = throw_error_too w RangeError
   defining_too o throws (IfSame v x rest) = bind w (same_value_too w at v x) (λ same. defining_too o throws (rest same))
 
-  with_number_too : (o : ObjNo) (key : Key) (d : Descriptor) → Alike w (objects.with_number (site_of at call) o key d) (objects.with_number (site_of at other) o key d)
-  with_number_too o key d = bind w (looks w (λ h. is_array h o)) (λ array. chooses w (array && is_same_text key length_key) (with_length_too w at d d.value) (gives w d))
+  with_number_too : (state : Option ObjectState) (key : Key) (d : Descriptor) → Alike w (objects.with_number at state key d) (objects.with_number at state key d)
+  with_number_too state key d = chooses w (objects.is_array_state state && is_same_text key length_key) (with_length_too w at d d.value) (gives w d)
 
   define_at_too : (o : ObjNo) (key : Key) (d : Descriptor) (throws : Bool) (state : Option ObjectState)
       → Alike w (objects.define_at (site_of at call) o key d throws state) (objects.define_at (site_of at other) o key d throws state)
@@ -203,7 +165,7 @@ module _ (w : TreeRelation) (at : Place) {call other : Value → Value → List 
 
   pub define_too : (o : ObjNo) (name : Key) (d : Descriptor) (throws : Bool) → Alike w (objects.define (site_of at call) o name d throws) (objects.define (site_of at other) o name d throws)
   unfolding objects.define
-  define_too o name d throws = bind w (or_leaves w at (checked_key name)) (λ key. bind w (with_number_too o key d) (λ d. bind w (looks w (λ h. object_at h o)) (λ state. define_at_too o key d throws state)))
+  define_too o name d throws = bind w (or_leaves w at (checked_key name)) (λ key. bind w (looks w (λ h. object_at h o)) (λ state. bind w (with_number_too state key d) (λ d. define_at_too o key d throws state)))
 
   pub make_property_too : (o : ObjNo) (key : Key) (v : Value) → Alike w (objects.make_property (site_of at call) o key v) (objects.make_property (site_of at other) o key v)
   make_property_too o key v = define_too o key (data_fields v true true true) false
@@ -236,15 +198,15 @@ module _ (w : TreeRelation) (at : Place) {call other : Value → Value → List 
   get_of_too (Prim (primitive.Text t)) key = get_of_string_too w at t key
   get_of_too v key = left_at w PrimitiveProperty at
 
-  pub put_of_too : (base : Value) (key : Key) (v : Value) → Alike w (objects.put_of (site_of at call) base key v) (objects.put_of (site_of at other) base key v)
+  pub put_of_too : (base : Value) (key : Key) (v : Value) (strict : Bool) → Alike w (objects.put_of (site_of at call) base key v strict) (objects.put_of (site_of at other) base key v strict)
   unfolding objects.put_of
-  put_of_too (Object o) key v = put_too o key v false
-  put_of_too base key v = left_at w PrimitiveProperty at
+  put_of_too (Object o) key v strict = put_too o key v strict
+  put_of_too base key v strict = left_at w PrimitiveProperty at
 
-  pub delete_of_too : (base : Value) (key : Key) → Alike w (objects.delete_of (site_of at call) base key) (objects.delete_of (site_of at other) base key)
+  pub delete_of_too : (base : Value) (key : Key) (strict : Bool) → Alike w (objects.delete_of (site_of at call) base key strict) (objects.delete_of (site_of at other) base key strict)
   unfolding objects.delete_of
-  delete_of_too (Object o) key = delete_too o key false
-  delete_of_too base key = left_at w PrimitiveProperty at
+  delete_of_too (Object o) key strict = delete_too o key strict
+  delete_of_too base key strict = left_at w PrimitiveProperty at
 
   -- ---- names
 
@@ -254,17 +216,18 @@ module _ (w : TreeRelation) (at : Place) {call other : Value → Value → List 
 
   pub resolve_name_too : (context : Context) (name : List ℕ) → Alike w (names.resolve_name (site_of at call) context name) (names.resolve_name (site_of at other) context name)
   unfolding names.resolve_name
-  resolve_name_too context name = bind w (looks w (λ h. resolve h context.scope name)) (λ c. bind w (binding_too name c) (λ b. gives w (NameReference name b)))
+  resolve_name_too context name = bind w (binding_too name (resolve context.environment name)) (λ b. gives w (NameReference name b context.strict))
 
   pub get_value_too : (r : Reference) → Alike w (names.get_value (site_of at call) r) (names.get_value (site_of at other) r)
   unfolding names.get_value
-  get_value_too (NameReference name (InCell c)) = looks w _
-  get_value_too (NameReference name OnGlobal) = get_too global name
-  get_value_too (NameReference name Nowhere) = throw_error_too w ReferenceError
-  get_value_too (PropertyReference base key) = get_of_too base key
+  get_value_too (NameReference name (InCell c) strict) = looks w _
+  get_value_too (NameReference name OnGlobal strict) = get_too global name
+  get_value_too (NameReference name Nowhere strict) = throw_error_too w ReferenceError
+  get_value_too (PropertyReference base key strict) = get_of_too base key
 
   pub put_value_too : (r : Reference) (v : Value) → Alike w (names.put_value (site_of at call) r v) (names.put_value (site_of at other) r v)
   unfolding names.put_value
-  put_value_too (NameReference name (InCell c)) v = changes w _
-  put_value_too (NameReference name b) v = put_too global name v false
-  put_value_too (PropertyReference base key) v = put_of_too base key v
+  put_value_too (NameReference name (InCell c) strict) v = changes w _
+  put_value_too (NameReference name OnGlobal strict) v = put_too global name v strict
+  put_value_too (NameReference name Nowhere strict) v = chooses w strict (throw_error_too w ReferenceError) (put_too global name v false)
+  put_value_too (PropertyReference base key strict) v = put_of_too base key v strict

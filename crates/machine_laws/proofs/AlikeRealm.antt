@@ -3,7 +3,7 @@ use Rattle.std.proofs.Common.{ℕ, zero, suc, ◌-◌, Bool, true, false, cond, 
 use Rattle.std.specs.Prelude.{nat_eq, nat_lt, slice_get, Option, Some, None}
 use Rattle.std.specs.Option.{option_and_then, option_map}
 use Rattle.js_value.specs.declared.why.Why.TheVariants.{ClosedBuiltin}
-use Rattle.js_machine.specs.Machine.Numbers.{function_prototype}
+use Rattle.js_machine.specs.Machine.RealmObjects.{function_prototype, error_base, error_prototype, TypeError, RangeError, ReferenceError}
 use Rattle.js_machine.specs.Machine.ObjectBuiltins as object
 use Rattle.js_machine.specs.Machine.ObjectBuiltins.{Rule}
 use Rattle.js_machine.specs.Machine.Realm as R
@@ -31,7 +31,7 @@ module _ (w : TreeRelation) where
 
   constructors_too : Each IfThere R.constructors
   constructors_too =
-      tt also tt also closed_too also tt also closed_too also tt also closed_too also tt also b.make_error_too w 7 also tt also b.make_error_too w 9 also tt also b.make_error_too w 11 also tt also b.make_error_too w 13 also none
+      tt also tt also closed_too also tt also closed_too also tt also closed_too also tt also b.make_error_too w error_base also tt also b.make_error_too w (error_prototype TypeError) also tt also b.make_error_too w (error_prototype RangeError) also tt also b.make_error_too w (error_prototype ReferenceError) also none
 
   functions_too : Each (λ (f : Owned). RuleAlike w f.rule) R.functions
   functions_too = b.has_own_property_too w also b.is_prototype_too w also b.property_is_enumerable_too w also b.create_too w also b.get_prototype_of_too w also b.get_own_property_descriptor_too w

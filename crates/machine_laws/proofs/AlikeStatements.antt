@@ -18,34 +18,34 @@ use Rattle.js_tree.specs.declared.statement.Stmt.{Stmt}
 use Rattle.js_tree.specs.declared.statement.StmtForm.{StmtForm}
 use Rattle.js_tree.specs.declared.statement.StmtForm.TheOpen.{StmtForm-F}
 use Rattle.plain_heap.specs.Values.{Value, Prim, Object, ObjNo, undefined, text}
-use Rattle.plain_heap.specs.Heap.{Key}
-use Rattle.js_machine.specs.Machine.Expressions.{Ev, Flow, Normal, Broke, Continued, Returned}
-use Rattle.js_machine.specs.Machine.Names.{Context}
+use Rattle.plain_heap.specs.Heap.{Key, make_cell}
+use Rattle.js_machine.specs.Machine.Expressions.{Ev, Completion, Normal, Break, Continue, Return}
+use Rattle.js_machine.specs.Machine.References.{Context}
 use Rattle.js_machine.specs.Machine.Statements as S
-use Rattle.js_machine.specs.Machine.Trees.{Run, Next, Again, Done}
-use Rattle.machine_laws.proofs.Alike.{TreeRelation, Alike, Stepped, sooner, bind, bind_step, plainly, gives, throws, left_at, looks, chooses, in_turns, catches}
+use Rattle.js_machine.specs.Machine.Events.{Run, Next, Again, Done}
+use Rattle.machine_laws.proofs.Alike.{TreeRelation, Alike, Stepped, sooner, bind, bind_step, plainly, gives, throws, left_at, looks, chooses, in_turns, catches, makes}
 use Rattle.machine_laws.proofs.AlikeObjects.{test_too, has_property_too, resolve_name_too, put_value_too}
-use Rattle.machine_laws.proofs.AlikeExpressions.{PartsAlike, expr_too, make_cell_too, make_scope_too, binary_value_too}
+use Rattle.machine_laws.proofs.AlikeExpressions.{PartsAlike, expr_too, binary_value_too}
 
 module _ (w : TreeRelation) where
   -- ---- 12.1
 
-  if_normal_too : {m n : Run Flow} → Alike w m n → (flow : Flow) → Alike w (S.if_normal m flow) (S.if_normal n flow)
+  if_normal_too : {m n : Run Completion} → Alike w m n → (completion : Completion) → Alike w (S.if_normal m completion) (S.if_normal n completion)
   if_normal_too h Normal = h
-  if_normal_too h flow = gives w flow
+  if_normal_too h completion = gives w completion
 
-  pub statements_too : {stmt other : Stmt → Run Flow} → ((x : Stmt) → Alike w (stmt x) (other x)) → (xs : List Stmt) → Alike w (S.statements stmt xs) (S.statements other xs)
+  pub statements_too : {stmt other : Stmt → Run Completion} → ((x : Stmt) → Alike w (stmt x) (other x)) → (xs : List Stmt) → Alike w (S.statements stmt xs) (S.statements other xs)
   unfolding S.statements
   statements_too h [] = gives w Normal
-  statements_too h (x ∷ xs) = bind w (h x) (λ flow. if_normal_too (statements_too h xs) flow)
+  statements_too h (x ∷ xs) = bind w (h x) (λ completion. if_normal_too (statements_too h xs) completion)
 
   -- ---- parts of loops
 
-  after_body_too : {m n : Run (Next Flow)} → Alike w m n → (flow : Flow) → Alike w (S.after_body m flow) (S.after_body n flow)
+  after_body_too : {m n : Run (Next Completion)} → Alike w m n → (completion : Completion) → Alike w (S.after_body m completion) (S.after_body n completion)
   after_body_too h Normal = h
-  after_body_too h Continued = h
-  after_body_too h Broke = gives w (Done Normal)
-  after_body_too h (Returned v) = gives w (Done (Returned v))
+  after_body_too h Continue = h
+  after_body_too h Break = gives w (Done Normal)
+  after_body_too h (Return v) = gives w (Done (Return v))
 
   again_too : Alike w S.again S.again
   again_too = gives w Again
@@ -53,16 +53,16 @@ module _ (w : TreeRelation) where
   done_too : Alike w S.done S.done
   done_too = gives w (Done Normal)
 
-  unless_left_too : {m n : Run Flow} → Alike w m n → (flow : Flow) → Alike w (S.unless_left m flow) (S.unless_left n flow)
+  unless_left_too : {m n : Run Completion} → Alike w m n → (completion : Completion) → Alike w (S.unless_left m completion) (S.unless_left n completion)
   unless_left_too h Normal = h
-  unless_left_too h Continued = h
-  unless_left_too h Broke = gives w Normal
-  unless_left_too h (Returned v) = gives w (Returned v)
+  unless_left_too h Continue = h
+  unless_left_too h Break = gives w Normal
+  unless_left_too h (Return v) = gives w (Return v)
 
   -- ---- 12.14
 
-  finish_too : {last latter m n : Run Flow} → Alike w last latter → Alike w m n → Alike w (S.finish last m) (S.finish latter n)
-  finish_too l h = bind w l (λ flow. if_normal_too h flow)
+  finish_too : {last latter m n : Run Completion} → Alike w last latter → Alike w m n → Alike w (S.finish last m) (S.finish latter n)
+  finish_too l h = bind w l (λ completion. if_normal_too h completion)
 
 module _ (w : TreeRelation) {ev other : Ev} (a : PartsAlike w ev other) (context : Context) where
   pub stmt_too : (x : Stmt) → Alike w (ev.stmt context x) (other.stmt context x)
@@ -85,8 +85,8 @@ module _ (w : TreeRelation) {ev other : Ev} (a : PartsAlike w ev other) (context
 
   return_rule_too : (e : Option Expr) → Alike w (S.return_rule ev context e) (S.return_rule other context e)
   unfolding S.return_rule
-  return_rule_too None = gives w (Returned undefined)
-  return_rule_too (Some e) = bind w (expr_too w a context e) (λ v. gives w (Returned v))
+  return_rule_too None = gives w (Return undefined)
+  return_rule_too (Some e) = bind w (expr_too w a context e) (λ v. gives w (Return v))
 
   throw_rule_too : (e : Expr) → Alike w (S.throw_rule ev context e) (S.throw_rule other context e)
   unfolding S.throw_rule
@@ -122,18 +122,18 @@ module _ (w : TreeRelation) {ev other : Ev} (a : PartsAlike w ev other) (context
   do_while_turn_too : (body : Stmt) (e : Expr) → Stepped w (S.do_while_turn ev context at body e) (S.do_while_turn other context at body e)
   unfolding S.do_while_turn
   do_while_turn_too body e = bind_step w (a.stmt context body)
-      (λ flow. after_body_too w (bind w (expr_too w a context e) (λ v. bind w (test_too w at v) (λ t. chooses w t (again_too w) (done_too w)))) flow)
+      (λ completion. after_body_too w (bind w (expr_too w a context e) (λ v. bind w (test_too w at v) (λ t. chooses w t (again_too w) (done_too w)))) completion)
 
   while_turn_too : (e : Expr) (body : Stmt) → Stepped w (S.while_turn ev context at e body) (S.while_turn other context at e body)
   unfolding S.while_turn
   while_turn_too e body = bind_step w (a.expr context e)
-      (λ v. bind w (test_too w at v) (λ t. chooses w t (bind w (stmt_too w a context body) (λ flow. after_body_too w (again_too w) flow)) (done_too w)))
+      (λ v. bind w (test_too w at v) (λ t. chooses w t (bind w (stmt_too w a context body) (λ completion. after_body_too w (again_too w) completion)) (done_too w)))
 
   for_turn_too : (e increment : Option Expr) (body : Stmt) → Stepped w (S.for_turn ev context at e increment body) (S.for_turn other context at e increment body)
   unfolding S.for_turn
-  for_turn_too None increment body = bind_step w (a.stmt context body) (λ flow. after_body_too w (for_step_too w a context increment) flow)
+  for_turn_too None increment body = bind_step w (a.stmt context body) (λ completion. after_body_too w (for_step_too w a context increment) completion)
   for_turn_too (Some e) increment body = bind_step w (bind_step w (a.expr context e) (λ v. test_too w at v))
-      (λ t. chooses w t (bind w (stmt_too w a context body) (λ flow. after_body_too w (for_step_too w a context increment) flow)) (done_too w))
+      (λ t. chooses w t (bind w (stmt_too w a context body) (λ completion. after_body_too w (for_step_too w a context increment) completion)) (done_too w))
 
   for_start_too : (from : ForStart) → Alike w (S.for_start ev context at from) (S.for_start other context at from)
   for_start_too start.Nothing = gives w tt
@@ -157,8 +157,8 @@ module _ (w : TreeRelation) {ev other : Ev} (a : PartsAlike w ev other) (context
   for_in_turns_too : (to : ForTarget) (body : Stmt) (o : ObjNo) (keys : List Key) → Alike w (S.for_in_turns ev context at to body o keys) (S.for_in_turns other context at to body o keys)
   unfolding S.for_in_turns
   for_in_turns_too to body o [] = gives w Normal
-  for_in_turns_too to body o (key ∷ keys) = bind w (has_property_too w at (a.call at) o key) (λ there. bind w (for_in_turn_too to body key there) (λ flow.
-      unless_left_too w (for_in_turns_too to body o keys) flow))
+  for_in_turns_too to body o (key ∷ keys) = bind w (has_property_too w at (a.call at) o key) (λ there. bind w (for_in_turn_too to body key there) (λ completion.
+      unless_left_too w (for_in_turns_too to body o keys) completion))
 
   for_in_value_too : (to : ForTarget) (body : Stmt) (v : Value) → Alike w (S.for_in_value ev context at to body v) (S.for_in_value other context at to body v)
   for_in_value_too to body (Object o) = bind w (looks w (S.enumerated o)) (λ keys. for_in_turns_too to body o keys)
@@ -180,25 +180,25 @@ module _ (w : TreeRelation) {ev other : Ev} (a : PartsAlike w ev other) (context
 
   switch_rule_too : (e : Expr) (cs : List S.Clause) → Alike w (S.switch_rule ev context at e cs) (S.switch_rule other context at e cs)
   unfolding S.switch_rule
-  switch_rule_too e cs = bind w (expr_too w a context e) (λ v. bind w (from_match_too v (S.from_default cs) cs) (λ body. bind w (body_too w a context body) (λ flow. gives w (S.after_switch flow))))
+  switch_rule_too e cs = bind w (expr_too w a context e) (λ v. bind w (from_match_too v (S.from_default cs) cs) (λ body. bind w (body_too w a context body) (λ completion. gives w (S.after_switch completion))))
 
 module _ (w : TreeRelation) {ev other : Ev} (a : PartsAlike w ev other) (context : Context) where
   -- ---- 12.14
 
   handle_too : (name : List ℕ) (body : List Stmt) (v : Value) → Alike w (S.handle ev context name body v) (S.handle other context name body v)
   unfolding S.handle
-  handle_too name body v = bind w (make_cell_too w v) (λ c. bind w (make_scope_too w context.scope ((name, c) ∷ [])) (λ s. body_too w a (record context { scope = Some s }) body))
+  handle_too name body v = bind w (makes w (make_cell v)) (λ c. body_too w a (record context { environment = (name, c) ∷ context.environment }) body)
 
-  with_handler_too : (handler : Option Catch) {m n : Run Flow} → Alike w m n → Alike w (S.with_handler ev context handler m) (S.with_handler other context handler n)
+  with_handler_too : (handler : Option Catch) {m n : Run Completion} → Alike w m n → Alike w (S.with_handler ev context handler m) (S.with_handler other context handler n)
   with_handler_too None h = h
   with_handler_too (Some c) h = catches w (handle_too (out-Catch c).name (out-Catch c).body) h
 
-  with_final_too : (final : Option Finally) {m n : Run Flow} → Alike w m n → Alike w (S.with_final ev context final m) (S.with_final other context final n)
+  with_final_too : (final : Option Finally) {m n : Run Completion} → Alike w m n → Alike w (S.with_final ev context final m) (S.with_final other context final n)
   with_final_too None h = h
   with_final_too (Some f) h =
       let last = body_too w a context (out-Finally f).body in record {
         at = λ i s k l d e kept caught. h.at i s _ _ _ _
-            (record { at = λ j le flow t. (finish_too w last (gives w flow)).at j t k l d e (sooner w le kept) (sooner w le caught) })
+            (record { at = λ j le completion t. (finish_too w last (gives w completion)).at j t k l d e (sooner w le kept) (sooner w le caught) })
             (record { at = λ j le v t. (finish_too w last (throws w v)).at j t k l d e (sooner w le kept) (sooner w le caught) });
       }
 
@@ -220,8 +220,8 @@ module _ (w : TreeRelation) {ev other : Ev} (a : PartsAlike w ev other) (context
   stmt_rule_too at (StmtForm-F.While e body) = a.loops.at (while_turn_too w a context at e body)
   stmt_rule_too at (StmtForm-F.For from e increment body) = for_rule_too w a context at from e increment body
   stmt_rule_too at (StmtForm-F.ForIn to e body) = for_in_rule_too w a context at to e body
-  stmt_rule_too at StmtForm-F.Continue = gives w Continued
-  stmt_rule_too at StmtForm-F.Break = gives w Broke
+  stmt_rule_too at StmtForm-F.Continue = gives w Continue
+  stmt_rule_too at StmtForm-F.Break = gives w Break
   stmt_rule_too at (StmtForm-F.Return e) = return_rule_too w a context e
   stmt_rule_too at (StmtForm-F.Switch e cases) = switch_rule_too w a context at e (map S.clause_of cases)
   stmt_rule_too at (StmtForm-F.Throw e) = throw_rule_too w a context e

@@ -3,9 +3,9 @@ use Rattle.std.proofs.Common.{◌≡◌, ℕ, zero, suc, ◌≤◌, ◌<◌, ◌
 use Rattle.js_tree.specs.declared.statement.Script.{Script}
 use Rattle.plain_heap.specs.Heap.{Heap}
 use Rattle.plain_heap.specs.Values.{Value}
-use Rattle.js_machine.specs.Machine.Expressions.{Flow}
-use Rattle.js_machine.specs.Machine.Trees.{Tree, Spent, Run, Next, Again, Done, repeat, unless_done}
-use Rattle.js_machine.specs.Machine.Walks.{World, HostEvent, OutOfSteps, walk, plain_from}
+use Rattle.js_machine.specs.Machine.Expressions.{Completion}
+use Rattle.js_machine.specs.Machine.Events.{Tree, Spent, Run, Next, Again, Done, repeat, unless_done}
+use Rattle.js_machine.specs.Machine.Walks.{World, HostEvent, OutOfSteps, walk, plain_from, behind, Start}
 use Rattle.machine_laws.specs.Turns.{MoreTurns, run_with}
 use Rattle.machine_laws.proofs.Alike.{TreeRelation, Begins, begun, Kept, Stepped, LoopsAlike, sooner, left}
 use Rattle.machine_laws.proofs.AlikeLevels.{script_trees}
@@ -15,13 +15,13 @@ use Rattle.machine_laws.proofs.Walks.{OutcomeRelation, walks}
 
 module _ (w : TreeRelation) (Enough : ℕ → ℕ → Type 0) (fewer : (i j a : ℕ) → j < i → Enough i (suc a) → Enough j a)
     (spent : (i : ℕ) → Enough i zero → w.Related i Spent Spent) (cut : (i : ℕ) (t : Tree) → Enough i zero → Begins t → w.Related i Spent t)
-    {once again : Run (Next Flow)} (h : Stepped w once again) where
-  after : (a b i : ℕ) (k l : Flow → Heap → Tree) (d e : Value → Heap → Tree) → Kept w i k l → ((s : Heap) → w.Related i (repeat a once s k d) (repeat b again s l e))
-      → (t : Next Flow) (s : Heap) → w.Related i (unless_done (repeat a once) t s k d) (unless_done (repeat b again) t s l e)
+    {once again : Run (Next Completion)} (h : Stepped w once again) where
+  after : (a b i : ℕ) (k l : Completion → Heap → Tree) (d e : Value → Heap → Tree) → Kept w i k l → ((s : Heap) → w.Related i (repeat a once s k d) (repeat b again s l e))
+      → (t : Next Completion) (s : Heap) → w.Related i (unless_done (repeat a once) t s k d) (unless_done (repeat b again) t s l e)
   after a b i k l d e kept next Again s = next s
   after a b i k l d e kept next (Done x) s = kept.at i (omega arith) x s
 
-  repeats : (a b i : ℕ) → a ≤ b → Enough i a → (s : Heap) (k l : Flow → Heap → Tree) (d e : Value → Heap → Tree) → Kept w i k l → Kept w i d e
+  repeats : (a b i : ℕ) → a ≤ b → Enough i a → (s : Heap) (k l : Completion → Heap → Tree) (d e : Value → Heap → Tree) → Kept w i k l → Kept w i d e
       → w.Related i (repeat a once s k d) (repeat b again s l e)
   unfolding repeat
   repeats zero zero i le enough s k l d e kept caught = spent i enough
@@ -77,12 +77,12 @@ any_turns turns more le = record {
 
 -- ---- runs
 
-enough_for : (start : Heap) (s : Script) (w : World) (n turns : ℕ) → n ≤ turns → run_with turns start s w n ≡ plain_from start s w n
+enough_for : (start : Start) (s : Script) (w : World) (n turns : ℕ) → n ≤ turns → run_with turns start s w n ≡ plain_from start s w n
 unfolding plain_from
-enough_for start s w n turns le = sym (script_trees (walks (same_to n)) s n turns (enough_turns n turns le) n start w [] (omega arith))
+enough_for start s w n turns le = sym (script_trees (walks (same_to n)) (behind start.functions s) n turns (enough_turns n turns le) n start.heap w [] (omega arith))
 
 pub more_turns : MoreTurns
 more_turns = record {
   enough = enough_for;
-  greater = λ start s w n turns more le. script_trees (walks same_or_out) s turns more (any_turns turns more le) n start w [];
+  greater = λ start s w n turns more le. script_trees (walks same_or_out) (behind start.functions s) turns more (any_turns turns more le) n start.heap w [];
 }

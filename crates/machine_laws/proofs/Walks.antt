@@ -7,9 +7,9 @@ use Rattle.js_value.specs.declared.primitive.Primitive.{Primitive}
 use Rattle.js_value.specs.declared.why.Why.{Why}
 use Rattle.js_value.specs.declared.why.Why.TheVariants.{NoInput, InputKind, NoAnswer, AnswerKind}
 use Rattle.plain_heap.specs.Heap.{lookup}
-use Rattle.plain_heap.specs.Values.{Value, Prim}
-use Rattle.js_machine.specs.Machine.Trees.{Tree, Step, Turn}
-use Rattle.js_machine.specs.Machine.Walks.{World, HostEvent, Outcome, Left, walk, given, called, is_of_kind}
+use Rattle.plain_heap.specs.Values.{Value, Prim, truth}
+use Rattle.js_machine.specs.Machine.Events.{Tree, Step, Turn}
+use Rattle.js_machine.specs.Machine.Walks.{given, World, HostEvent, Outcome, Left, walk, called, is_of_kind, Answer, answered}
 use Rattle.machine_laws.proofs.Alike.{TreeRelation}
 
 -- with a budget of so many steps
@@ -39,6 +39,12 @@ module _ (r : OutcomeRelation) where
   given_both n at missing other k None f g h = r.same n (Left missing at)
   given_both n at missing other k (Some p) f g h = either n (is_of_kind k p) (f (Prim p)) (g (Prim p)) (Left other at) (h (Prim p))
 
+  pub answered_both : (n : ℕ) (at : Place) (k : Kind) (found : Option Answer) (f g : Value → Value → Outcome) → ((v threw : Value) → r.Holds n (f v threw) (g v threw))
+      → r.Holds n (answered at k found f) (answered at k found g)
+  answered_both n at k None f g h = r.same n (Left NoAnswer at)
+  answered_both n at k (Some answer) f g h =
+      either n (is_of_kind k answer.value) (f (Prim answer.value) (truth answer.threw)) (g (Prim answer.value) (truth answer.threw)) (Left AnswerKind at) (h (Prim answer.value) (truth answer.threw))
+
   abbrev pub walks : TreeRelation
   walks = record {
     Related = WalksRelated;
@@ -46,10 +52,10 @@ module _ (r : OutcomeRelation) where
     turns = after_turn;
     asks = λ n at v f g h w calls. r.same n _;
     inputs = λ n at k name f g h w calls. given_both n at NoInput InputKind k (lookup name w.inputs) (λ v. walk w n calls (f v)) (λ v. walk w n calls (g v)) (λ v. h v w calls);
-    calls = λ n at k name arguments f g h w calls. given_both n at NoAnswer AnswerKind k (slice_get w.answers (length calls))
-        (λ v. walk w n (called calls name arguments k v) (f v)) (λ v. walk w n (called calls name arguments k v) (g v)) (λ v. h v w (called calls name arguments k v));
-    leaves = λ n why at w calls. r.same n _;
-    wants = λ n what at w calls. r.same n _;
+    calls = λ n at k name arguments f g h w calls. answered_both n at k (slice_get w.answers (length calls))
+        (λ v threw. walk w n (called calls name arguments k v threw) (f v threw)) (λ v threw. walk w n (called calls name arguments k v threw) (g v threw))
+        (λ v threw. h v threw w (called calls name arguments k v threw));
+    stops = λ n why at w calls. r.same n _;
     ends = λ n s w calls. r.same n _;
     fails = λ n v s w calls. r.same n _;
   }
