@@ -15,6 +15,7 @@ pub mod Renumbered
 pub mod Walks
 pub mod Worlds
 pub mod Choices
+pub mod Codes
 pub mod Listed
 pub mod Laws
 pub mod RunText

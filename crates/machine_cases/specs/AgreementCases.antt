@@ -11,7 +11,7 @@ use Rattle.js_tree.specs.declared.expression.ExprForm.TheVariants as e
 use Rattle.js_tree.specs.declared.statement.Script.{Script}
 use Rattle.js_tree.specs.declared.statement.StmtForm.TheVariants as s
 use Rattle.plain_heap.specs.Heap.{Heap, Properties, add_object, data_property}
-use Rattle.plain_heap.specs.Values.{Object, number, text}
+use Rattle.plain_heap.specs.Values.{Object, number, text, truth}
 use Rattle.machine_cases.specs.ListingCases.{added, after_number, holding, plain}
 use Rattle.js_machine.specs.Machine.Listed.{Agree}
 use Rattle.js_machine.specs.Machine.RealmObjects.{global, function_prototype, object_prototype}
@@ -39,11 +39,15 @@ with_object properties h = add_object (plain (Some object_prototype) properties)
 
 -- __residual("number", "now") is 5
 abbrev pub now_call : HostEvent
-now_call = record { name = codes "now"; arguments = []; kind = kind.Number; answer = number 5 }
+now_call = record { name = codes "now"; arguments = []; kind = kind.Number; answer = number 5; threw = truth false }
 
 -- the answer is 6
 abbrev pub later_call : HostEvent
 later_call = record now_call { answer = number 6 }
+
+-- the answer is thrown
+abbrev pub thrown_call : HostEvent
+thrown_call = record now_call { threw = truth true }
 
 -- __residual("number", "now", "a") is 5
 abbrev pub argument_call : HostEvent
@@ -118,6 +122,7 @@ pub record AgreementCases : Type 0 where
   pub realm_object_thrown : AgreeAs (Ended [] (Thrown (Object object_prototype)) realm) (Ended [] (Thrown (Object object_prototype)) realm)
   -- the host calls differ: one has another answer, another argument, comes alone, or comes first
   pub answer_differs : AgreeAs (calling (now_call ∷ [])) (calling (later_call ∷ [])) → ⊥
+  pub mark_differs : AgreeAs (calling (now_call ∷ [])) (calling (thrown_call ∷ [])) → ⊥
   pub argument_differs : AgreeAs (calling (now_call ∷ [])) (calling (argument_call ∷ [])) → ⊥
   pub call_more : AgreeAs (calling []) (calling (now_call ∷ [])) → ⊥
   pub order_of_calls : AgreeAs (calling (now_call ∷ later_call ∷ [])) (calling (later_call ∷ now_call ∷ [])) → ⊥

@@ -1,5 +1,5 @@
 -- Runs that leave functions which have captured cells: whether they agree, worked out by hand.
-use Rattle.std.specs.Prelude.{ℕ, [], ◌∷◌, codes, Some, None}
+use Rattle.std.specs.Prelude.{false, ℕ, [], ◌∷◌, codes, Some, None}
 use Rattle.js_value.specs.declared.place.FuncNo.{FuncNo}
 use Rattle.js_tree.specs.Mentions.{Names}
 use Rattle.js_tree.specs.Trees.{expr, stmt, no, func, script}

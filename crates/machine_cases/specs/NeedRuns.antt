@@ -1,6 +1,6 @@
 -- Where and why runs along choices stop at a symbol, worked out by hand: as a key, as a base, as a length, as a number that a built-in
 -- takes, and where any primitive would leave.
-use Rattle.std.specs.Prelude.{◌≡◌, ℕ, pos, [], ◌∷◌, codes, Some, None}
+use Rattle.std.specs.Prelude.{Bool, true, false, ◌≡◌, ℕ, pos, [], ◌∷◌, codes, Some, None}
 use Rattle.js_value.specs.declared.operator.BinaryOp.TheVariants as binary
 use Rattle.js_value.specs.declared.operator.UnaryOp.TheVariants as unary
 use Rattle.js_value.specs.declared.primitive.Kind.TheVariants as kind
@@ -14,7 +14,7 @@ use Rattle.js_tree.specs.declared.expression.Field.TheVariants as field
 use Rattle.js_tree.specs.declared.statement.Script.{Script}
 use Rattle.js_tree.specs.declared.statement.StmtForm.TheVariants as s
 use Rattle.machine_cases.specs.ChoiceRuns.{came}
-use Rattle.js_machine.specs.Machine.Choices.{OpenEnded, OpenRun, Stopped, open_walk}
+use Rattle.js_machine.specs.Machine.Choices.{Opened, OpenEnded, OpenRun, Stopped, open_walk}
 use Rattle.js_machine.specs.Machine.Levels.{script_tree_within}
 use Rattle.js_machine.specs.Machine.Realm.{realm}
 use Rattle.js_machine.specs.Machine.Events.{Argument, Base, Key, Length, Need, Lacks, Leaves}
@@ -22,7 +22,15 @@ use Rattle.machine_cases.specs.RunCases.{deep}
 
 -- the run of a script on the realm along no choices
 abbrev pub opened : ℕ → Script → OpenRun
-opened d script = open_walk 200 0 [] [] (script_tree_within (deep d) (deep d) script realm)
+opened d script = open_walk 200 [] [] [] (script_tree_within (deep d) (deep d) script realm)
+
+-- the code ended or threw
+abbrev pub ended_so : Opened → Bool
+ended_so (OpenEnded calls ending h) = true
+ended_so _ = false
+
+abbrev pub is_ended : OpenRun → Bool
+is_ended r = ended_so r.came_to
 
 -- a symbol stands where a known value must stand
 abbrev pub lacks : Need → ℕ → OpenRun
@@ -135,7 +143,7 @@ pub record NeedRuns : Type 0 where
   pub tested_run : (d : ℕ) → opened d tested ≡ lacks Key 2
   pub own_run : (d : ℕ) → opened d own ≡ lacks Key 4
   pub defined_run : (d : ℕ) → opened d defined ≡ lacks Key 1
-  pub behind_null_run : (d : ℕ) → opened d behind_null ≡ came OpenEnded []
+  pub behind_null_run : (d : ℕ) → is_ended (opened d behind_null) ≡ true
   pub base_of_member_run : (d : ℕ) → opened d base_of_member ≡ lacks Base 4
   pub base_of_index_run : (d : ℕ) → opened d base_of_index ≡ lacks Base 4
   pub base_and_key_run : (d : ℕ) → opened d base_and_key ≡ lacks Base 4
@@ -148,8 +156,8 @@ pub record NeedRuns : Type 0 where
   pub start_run : (d : ℕ) → opened d start ≡ lacks Argument 1
   pub end_run : (d : ℕ) → opened d end ≡ lacks Argument 1
   pub from_run : (d : ℕ) → opened d from ≡ lacks Argument 1
-  pub from_in_nothing_run : (d : ℕ) → opened d from_in_nothing ≡ came OpenEnded []
+  pub from_in_nothing_run : (d : ℕ) → is_ended (opened d from_in_nothing) ≡ true
   pub symbol_as_this_run : (d : ℕ) → opened d symbol_as_this ≡ leaves PrimitiveThis 1
   pub symbol_as_argument_run : (d : ℕ) → opened d symbol_as_argument ≡ leaves BuiltinArgument 1
   pub symbol_and_object_run : (d : ℕ) → opened d symbol_and_object ≡ leaves ObjectToPrimitive 2
-  pub symbol_called_run : (d : ℕ) → opened d symbol_called ≡ came OpenEnded []
+  pub symbol_called_run : (d : ℕ) → is_ended (opened d symbol_called) ≡ true

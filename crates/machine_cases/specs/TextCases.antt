@@ -1,5 +1,5 @@
 -- Texts of runs, worked out by hand for the heaps of `ListingCases`.
-use Rattle.std.specs.Prelude.{◌≡◌, ℕ, List, [], ◌∷◌, ◌++◌, codes, Some, None}
+use Rattle.std.specs.Prelude.{false, ◌≡◌, ℕ, List, [], ◌∷◌, ◌++◌, codes, Some, None}
 use Rattle.js_value.specs.declared.place.FuncNo.{FuncNo}
 use Rattle.js_value.specs.declared.primitive.Kind.TheVariants as kind
 use Rattle.js_tree.specs.Mentions.{Names}

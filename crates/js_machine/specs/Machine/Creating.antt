@@ -14,9 +14,13 @@ use Rattle.js_machine.specs.Machine.RealmObjects.{object_prototype, function_pro
 abbrev pub Change : Type 0 → Type 0
 Change A = Heap → A × Heap
 
+-- the change that comes behind one that gave this and left this heap
+abbrev pub behind : {A B : Type 0} → A × Heap → (A → Change B) → B × Heap
+behind r next = next r.0 r.1
+
 infixl 20 ◌>>=◌
 abbrev pub ◌>>=◌ : {A B : Type 0} → Change A → (A → Change B) → Change B
-◌>>=◌ m next = λ h. next (m h).0 (m h).1
+◌>>=◌ m next = λ h. behind (m h) next
 
 abbrev pub give : {A : Type 0} → A → Change A
 give a = λ h. (a, h)

@@ -67,9 +67,13 @@ spent = λ s k h. Spent
 abbrev pub change : (Heap → Heap) → Run (Unit {0})
 change f = λ s k h. k tt (f s)
 
+-- what comes behind a change that gave this and left this heap
+abbrev pub made : {A : Type 0} → A × Heap → (A → Heap → Tree) → Tree
+made r k = k r.0 r.1
+
 -- a change that makes something and gives what it made
 abbrev pub make : {A : Type 0} → (Heap → A × Heap) → Run A
-make f = λ s k h. k (f s).0 (f s).1
+make f = λ s k h. made (f s) k
 
 abbrev pub look : {A : Type 0} → (Heap → A) → Run A
 look f = λ s k h. k (f s) s

@@ -5,10 +5,12 @@ use Rattle.std.specs.Option.{option_map}
 use Rattle.js_value.specs.Conversions.{is_same_text, is_same_truth}
 use Rattle.js_value.specs.declared.place.FuncNo.{FuncNo}
 use Rattle.js_tree.specs.Mentions.{Names, free_names}
+use Rattle.js_tree.specs.declared.statement.Func.{Func}
 use Rattle.js_tree.specs.declared.statement.Script.{Script}
 use Rattle.plain_heap.specs.Heap.{Key, Property, Properties, Data, Accessor, Class, Array, Function, ObjectState, Heap, cell, lookup, object_at, resolve, Environment}
 use Rattle.plain_heap.specs.Methods.{is_same_function}
 use Rattle.plain_heap.specs.Values.{Value, Object, ObjNo, CellNo, undefined, object_or_null, object_or_undefined}
+use Rattle.js_machine.specs.Machine.Codes.{code, of_functions}
 use Rattle.js_machine.specs.Machine.RealmObjects.{global}
 use Rattle.js_machine.specs.Machine.Operators.{is_same}
 use Rattle.js_machine.specs.Machine.Realm.{realm, realm_count}
@@ -119,18 +121,18 @@ pub data ListedProperty : Type 0 where
   AccessorLine : Key → ListedValue → ListedValue → Bool → Bool → ListedProperty
 
 -- a function has its code, whether it is strict, and the numbers of the cells that it has captured
-pub data Sort (C : Type 0) : Type 0 where
-  PlainObject : Sort C
-  ArrayObject : Sort C
-  FunctionObject : C → Bool → List ℕ → Sort C
+pub data Sort : Type 0 where
+  PlainObject : Sort
+  ArrayObject : Sort
+  FunctionObject : Script → Bool → List ℕ → Sort
 
-pub data Row (C : Type 0) : Type 0 where
+pub data Row : Type 0 where
   -- with its number, its prototype, whether it can't be extended, and its properties
-  NewRow : ℕ → Sort C → ListedValue → Bool → List ListedProperty → Row C
-  CellRow : ℕ → ListedValue → Row C
+  NewRow : ℕ → Sort → ListedValue → Bool → List ListedProperty → Row
+  CellRow : ℕ → ListedValue → Row
   -- what differs of an object of the realm: whether it can't be extended, the keys that are gone, the properties that are others, and
   -- those that are new
-  RealmRow : ObjNo → Bool → List Key → List ListedProperty → List ListedProperty → Row C
+  RealmRow : ObjNo → Bool → List Key → List ListedProperty → List ListedProperty → Row
 
 abbrev pub listed_value : List Item → Value → ListedValue
 listed_value queue (Object o) = if nat_lt o realm_count then RealmObject o else NewObject (rank is_new_object queue (AnObject o))
@@ -162,62 +164,69 @@ gone_keys start old = map (λ (p : Key × Property). p.0) (filter (λ (p : Key �
 abbrev pub is_changed : Properties → Key × Property → Bool
 is_changed start p = not (unwrap_or (option_map (is_same_property p.1) (lookup p.0 start)) false)
 
-abbrev pub realm_row : {C : Type 0} → List Item → ObjNo → Bool → Properties → Properties → Properties → Row C
+abbrev pub realm_row : List Item → ObjNo → Bool → Properties → Properties → Properties → Row
 realm_row queue o fixed start old new =
     RealmRow o fixed (gone_keys start old) (map (listed_property queue) (filter (is_changed start) old)) (map (listed_property queue) new)
 
-abbrev pub differs : {C : Type 0} → Row C → Bool
+abbrev pub differs : Row → Bool
 differs (RealmRow o false [] [] []) = false
 differs row = true
 
 abbrev pub realm_properties : ObjNo → Properties
 realm_properties o = unwrap_or (option_map (λ (state : ObjectState). state.properties) (object_at realm o)) []
 
-abbrev pub row_of_realm : {C : Type 0} → List Item → ObjNo → ObjectState → Row C
+abbrev pub row_of_realm : List Item → ObjNo → ObjectState → Row
 row_of_realm queue o now =
     let start = realm_properties o in
     let n = old_count start now.properties in
     realm_row queue o (not now.extensible) start (take n now.properties) (drop n now.properties)
 
--- ---- the listing, with the code of a function as it is given for the free names that a scope binds
+-- ---- the listing
 
-module _ {C : Type 0} (code : FuncNo → Names → C) where
-  abbrev pub sort_of : FreeNames → List Item → Class → Sort C
-  sort_of free queue Array = ArrayObject
-  sort_of free queue (Function f environment strict) =
+-- by the code of a function that has captured these names
+module _ (code_of : FuncNo → Names → Script) (free : FreeNames) where
+  abbrev pub sort_of : List Item → Class → Sort
+  sort_of queue Array = ArrayObject
+  sort_of queue (Function f environment strict) =
       let names = captured free f environment in
-      FunctionObject (code f names) strict (map (λ c. rank is_cell queue (ACell c)) (in_cells environment names))
-  sort_of free queue class = PlainObject
+      FunctionObject (code_of f names) strict (map (λ c. rank is_cell queue (ACell c)) (in_cells environment names))
+  sort_of queue class = PlainObject
 
-  abbrev pub object_row : FreeNames → List Item → ObjNo → ObjectState → Row C
-  object_row free queue o state =
+  abbrev pub object_row : List Item → ObjNo → ObjectState → Row
+  object_row queue o state =
       if nat_lt o realm_count then row_of_realm queue o state
-      else NewRow (rank is_new_object queue (AnObject o)) (sort_of free queue state.class) (listed_value queue (object_or_null state.prototype)) (not state.extensible) (map (listed_property queue) state.properties)
+      else NewRow (rank is_new_object queue (AnObject o)) (sort_of queue state.class) (listed_value queue (object_or_null state.prototype)) (not state.extensible) (map (listed_property queue) state.properties)
 
-  abbrev pub row_of : FreeNames → Heap → List Item → Item → List (Row C)
-  row_of free h queue (AnObject o) = unwrap_or (option_map (λ state. object_row free queue o state ∷ []) (object_at h o)) []
-  row_of free h queue (ACell c) = CellRow (rank is_cell queue (ACell c)) (listed_value queue (unwrap_or (cell h c) undefined)) ∷ []
+  abbrev pub row_of : Heap → List Item → Item → List Row
+  row_of h queue (AnObject o) = unwrap_or (option_map (λ state. object_row queue o state ∷ []) (object_at h o)) []
+  row_of h queue (ACell c) = CellRow (rank is_cell queue (ACell c)) (listed_value queue (unwrap_or (cell h c) undefined)) ∷ []
 
   -- the rows in the order of the walk, without those of the realm in which nothing differs
-  unfoldable pub listing_by : FreeNames → Heap → Ending → List (Row C)
-  listing_by free h ending =
+  unfoldable pub listing_by : Heap → Ending → List Row
+  listing_by h ending =
       let queue = queue_of free h ending in
-      filter differs (flat_map (row_of free h queue) queue)
+      filter differs (flat_map (row_of h queue) queue)
 
--- ---- the listing of what a script leaves, with the code of each script's functions, whose numbers mean nothing in another script
+-- ---- the listing of a heap that names functions of this table; their numbers mean nothing in another one
 
-module _ {C : Type 0} (code : Script → FuncNo → Names → C) where
-  abbrev pub listing : Script → Heap → Ending → List (Row C)
-  listing script h ending = listing_by (code script) (free_names script) h ending
+abbrev pub free_in : List Func → FreeNames
+free_in functions = free_names (of_functions functions)
 
-  -- ---- agreement of two runs: the same host calls, both ended normally or both threw the same as it is listed, and equal listings
+abbrev pub queue : List Func → Heap → Ending → List Item
+queue functions h ending = queue_of (free_in functions) h ending
 
-  abbrev pub IsSameEnding : Ending → List Item → Ending → List Item → Type 0
-  IsSameEnding Normally queue Normally other_queue = Unit {0}
-  IsSameEnding (Thrown v) queue (Thrown w) other_queue = listed_value other_queue w ≡ listed_value queue v
-  IsSameEnding _ queue _ other_queue = ⊥
+abbrev pub listing : List Func → Heap → Ending → List Row
+listing functions h ending = listing_by (code functions) (free_in functions) h ending
 
-  abbrev pub Agree : Script → Outcome → Script → Outcome → Type 0
-  Agree script (Ended calls ending h) other (Ended other_calls other_ending other_h) =
-      (other_calls ≡ calls) × IsSameEnding ending (queue_of (free_names script) h ending) other_ending (queue_of (free_names other) other_h other_ending) × (listing other other_h other_ending ≡ listing script h ending)
-  Agree script _ other _ = ⊥
+-- ---- agreement of two runs: the same host calls, both ended normally or both threw the same as it is listed, and equal listings
+
+abbrev pub IsSameEnding : Ending → List Item → Ending → List Item → Type 0
+IsSameEnding Normally queue Normally other_queue = Unit {0}
+IsSameEnding (Thrown v) queue (Thrown w) other_queue = listed_value other_queue w ≡ listed_value queue v
+IsSameEnding _ queue _ other_queue = ⊥
+
+-- each with the functions that its heap names
+abbrev pub Agree : List Func → Outcome → List Func → Outcome → Type 0
+Agree functions (Ended calls ending h) others (Ended other_calls other_ending other_h) =
+    (other_calls ≡ calls) × IsSameEnding ending (queue functions h ending) other_ending (queue others other_h other_ending) × (listing others other_h other_ending ≡ listing functions h ending)
+Agree functions _ others _ = ⊥

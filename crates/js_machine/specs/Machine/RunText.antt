@@ -5,11 +5,11 @@ use Rattle.std.specs.List.{flat_map}
 use Rattle.js_value.specs.Conversions.{to_text}
 use Rattle.js_value.specs.Texts.{quoted}
 use Rattle.js_value.specs.declared.primitive.Primitive.TheVariants as primitive
-use Rattle.js_tree.specs.Mentions.{free_names}
+use Rattle.js_tree.specs.declared.statement.Func.{Func}
 use Rattle.js_tree.specs.declared.statement.Script.{Script}
 use Rattle.plain_heap.specs.Heap.{Key}
 use Rattle.plain_heap.specs.Values.{Value, Prim, Absent}
-use Rattle.js_machine.specs.Machine.Listed.{listing, queue_of, Listed, NewObject, RealmObject, ListedValue, ListedProperty, DataLine, AccessorLine, Sort, PlainObject, ArrayObject, FunctionObject, Row, NewRow, CellRow, RealmRow, Item, listed_value}
+use Rattle.js_machine.specs.Machine.Listed.{listing, queue, Listed, NewObject, RealmObject, ListedValue, ListedProperty, DataLine, AccessorLine, Sort, PlainObject, ArrayObject, FunctionObject, Row, NewRow, CellRow, RealmRow, Item, listed_value}
 use Rattle.js_machine.specs.Machine.Realm.{realm_name}
 use Rattle.js_machine.specs.Machine.Walks.{HostEvent, Ending, Normally, Thrown, Outcome, Ended}
 use Rattle.script_text.specs.CodeLine.{code_text}
@@ -70,40 +70,42 @@ abbrev pub ending_text : List Item → Ending → List ℕ
 ending_text queue Normally = line (codes "normal")
 ending_text queue (Thrown v) = line (codes "throw " ++ listed_text (listed_value queue v))
 
--- ---- rows, with the text of a function's code as it is given
+-- ---- rows
 
 abbrev pub cells_text : List ℕ → List ℕ
 cells_text [] = []
 cells_text (n ∷ ns) = line (codes "  cells" ++ flat_map (λ m. codes " @" ++ decimal m) (n ∷ ns))
 
-module _ {C : Type 0} (code_text : C → List ℕ) where
-  abbrev pub sort_text : Sort C → List ℕ
-  sort_text PlainObject = codes "object"
-  sort_text ArrayObject = codes "array"
-  sort_text (FunctionObject code strict cells) = codes "function"
+abbrev pub sort_text : Sort → List ℕ
+sort_text PlainObject = codes "object"
+sort_text ArrayObject = codes "array"
+sort_text (FunctionObject code strict cells) = codes "function"
 
-  abbrev pub mark_text : Sort C → List ℕ
-  mark_text (FunctionObject code strict cells) = strict_text strict
-  mark_text sort = []
+abbrev pub mark_text : Sort → List ℕ
+mark_text (FunctionObject code strict cells) = strict_text strict
+mark_text sort = []
 
-  abbrev pub code_lines : Sort C → List ℕ
-  code_lines (FunctionObject code strict cells) = line (codes "  code " ++ code_text code) ++ cells_text cells
-  code_lines sort = []
+-- the tokens of a function that stands alone
+unfoldable pub code_line : Script → List ℕ
+code_line code = code_text code (record { 0 = 0 }) []
 
-  abbrev pub row_text : Row C → List ℕ
-  row_text (NewRow n sort prototype fixed properties) =
-      line (codes "#" ++ decimal n ++ codes " " ++ sort_text sort ++ codes " " ++ listed_text prototype ++ mark_text sort ++ fixed_text fixed) ++ code_lines sort ++ flat_map property_text properties
-  row_text (CellRow n v) = line (codes "@" ++ decimal n ++ codes " = " ++ listed_text v)
-  row_text (RealmRow o fixed gone others new) =
-      line (unwrap_or (realm_name o) [] ++ fixed_text fixed) ++ flat_map gone_text gone ++ flat_map property_text others ++ flat_map property_text new
+abbrev pub code_lines : Sort → List ℕ
+code_lines (FunctionObject code strict cells) = line (codes "  code " ++ code_line code) ++ cells_text cells
+code_lines sort = []
 
-  -- the queue is that of the walk by which the rows were listed
-  unfoldable pub run_text : List HostEvent → List Item → Ending → List (Row C) → List ℕ
-  run_text calls queue ending rows = flat_map call_text calls ++ ending_text queue ending ++ flat_map row_text rows
+abbrev pub row_text : Row → List ℕ
+row_text (NewRow n sort prototype fixed properties) =
+    line (codes "#" ++ decimal n ++ codes " " ++ sort_text sort ++ codes " " ++ listed_text prototype ++ mark_text sort ++ fixed_text fixed) ++ code_lines sort ++ flat_map property_text properties
+row_text (CellRow n v) = line (codes "@" ++ decimal n ++ codes " = " ++ listed_text v)
+row_text (RealmRow o fixed gone others new) =
+    line (unwrap_or (realm_name o) [] ++ fixed_text fixed) ++ flat_map gone_text gone ++ flat_map property_text others ++ flat_map property_text new
 
--- ---- the text of the run of a script that ended, with each function's code on one line
+-- the queue is that of the walk by which the rows were listed
+unfoldable pub run_text : List HostEvent → List Item → Ending → List Row → List ℕ
+run_text calls queue ending rows = flat_map call_text calls ++ ending_text queue ending ++ flat_map row_text rows
 
-abbrev pub outcome_text : Script → Outcome → Option (List ℕ)
-outcome_text script (Ended calls ending h) =
-    Some (run_text (λ line. line) calls (queue_of (free_names script) h ending) ending (listing code_text script h ending))
-outcome_text script _ = None
+-- ---- the text of a run that ended, whose heap names functions of this table
+
+abbrev pub outcome_text : List Func → Outcome → Option (List ℕ)
+outcome_text functions (Ended calls ending h) = Some (run_text calls (queue functions h ending) ending (listing functions h ending))
+outcome_text functions _ = None
