@@ -2,10 +2,9 @@
 use Rattle.std.proofs.Common.{◌≡◌, ℕ, nat_eq, List, [], ◌∷◌, length, refl, Bool, true, false}
 use Rattle.std.specs.Prelude.{codes, unsigned_abs}
 use Rattle.js_value.specs.Conversions.{is_same_text, is_same_value}
-use Rattle.js_value.specs.declared.place.FuncNo.{FuncNo}
 use Rattle.js_value.specs.declared.primitive.Primitive.TheVariants as primitive
 use Rattle.js_tree.specs.Early.{is_closed}
-use Rattle.js_tree.specs.Mentions.{Names, free_names}
+use Rattle.js_tree.specs.Mentions.{free_names}
 use Rattle.js_tree.specs.declared.expression.ExprForm.TheFolds.{fold_out-ExprForm, fold_out-Expr}
 use Rattle.js_tree.specs.declared.expression.ExprForm.TheVariants as e
 use Rattle.js_tree.specs.declared.statement.StmtForm.TheFolds.{fold_out-StmtForm, fold_out-Stmt}
@@ -44,6 +43,10 @@ abbrev pub number_in : Value → ℕ
 number_in (Prim (primitive.Number n)) = unsigned_abs n
 number_in v = 0
 
+abbrev is_truth : Value → Bool
+is_truth (Prim (primitive.Boolean b)) = b
+is_truth v = false
+
 abbrev pub listed_number : ListedValue → ℕ
 listed_number (Listed v) = number_in v
 listed_number (NewObject n) = n
@@ -53,6 +56,10 @@ abbrev has_answer : ℕ → List HostEvent → Bool
 has_answer n [] = false
 has_answer n (c ∷ calls) = nat_eq (number_in c.answer) n
 
+abbrev is_thrown : List HostEvent → Bool
+is_thrown (c ∷ calls) = is_truth c.threw
+is_thrown [] = false
+
 abbrev has_arguments : ℕ → List HostEvent → Bool
 has_arguments n [] = false
 has_arguments n (c ∷ calls) = nat_eq (length c.arguments) n
@@ -61,7 +68,7 @@ has_arguments n (c ∷ calls) = nat_eq (length c.arguments) n
 abbrev Lines : Type 0
 Lines = List ListedProperty
 
-abbrev new_lines : List (Row (FuncNo × Names)) → Lines
+abbrev new_lines : List (Row) → Lines
 new_lines (RealmRow o fixed gone others new ∷ rows) = new
 new_lines rows = []
 
@@ -95,6 +102,7 @@ agreement_cases = record {
   other_number_thrown = (refl, refl, refl);
   realm_object_thrown = (refl, refl, refl);
   answer_differs = λ a. apart (has_answer 6) a.0 refl refl;
+  mark_differs = λ a. apart is_thrown a.0 refl refl;
   argument_differs = λ a. apart (has_arguments 1) a.0 refl refl;
   call_more = λ a. apart (has_answer 5) a.0 refl refl;
   order_of_calls = λ a. apart (has_answer 6) a.0 refl refl;

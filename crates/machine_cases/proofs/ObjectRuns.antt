@@ -4,7 +4,8 @@ use Rattle.js_tree.specs.declared.expression.Field.TheVariants.{outs-Value, outs
 use Rattle.js_tree.specs.declared.expression.ExprForm.TheVariants as e
 use Rattle.js_tree.specs.declared.statement.StmtForm.TheVariants as s
 use Rattle.machine_cases.specs.ObjectRuns.{ObjectRuns}
-use Rattle.js_machine.proofs.Opening.{opening}
+use Rattle.js_tree.specs.declared.statement.StmtForm.TheFolds.{fold_out-Stmt, fold_out-StmtForm}
+use Rattle.js_machine.proofs.Opening.{opening, at_expr, at_reference, at_stmt, at_call, at_builtin}
 use Rattle.js_value.specs.Conversions as V
 use Rattle.js_value.specs.Operators as W
 use Rattle.plain_heap.specs.Heap as H
@@ -61,7 +62,7 @@ object_runs = record {
   not_sealed_run = λ d. simp (opening, e.outs-Call, e.outs-Member, e.outs-Name, e.outs-ObjectLit, s.outs-Var);
   freezing_absent_run = λ d. simp (opening, e.outs-Call, e.outs-Member, e.outs-Name, e.outs-This, s.outs-Eval);
   called_run = λ d. simp (opening, e.outs-Binary, e.outs-Call, e.outs-Func, e.outs-Literal, e.outs-Member, e.outs-Name, e.outs-ObjectLit, e.outs-This, s.outs-Return, s.outs-Var, outs-Value);
-  applied_run = λ d. simp (opening, e.outs-ArrayLit, e.outs-Binary, e.outs-Call, e.outs-Func, e.outs-Literal, e.outs-Member, e.outs-Name, e.outs-ObjectLit, e.outs-This, s.outs-Return, s.outs-Var, outs-Value);
+  applied_run = λ d. simp (fold_out-Stmt, fold_out-StmtForm, at_expr, at_reference, at_stmt, at_call, at_builtin, e.outs-ArrayLit, e.outs-Binary, e.outs-Call, e.outs-Func, e.outs-Literal, e.outs-Member, e.outs-Name, e.outs-ObjectLit, e.outs-This, s.outs-Return, s.outs-Var, outs-Value);
   applied_to_nothing_run = λ d. simp (opening, e.outs-Call, e.outs-Func, e.outs-Literal, e.outs-Member, e.outs-Name, s.outs-Return, s.outs-Var);
   applied_to_number_run = λ d. simp (opening, e.outs-Call, e.outs-Func, e.outs-Literal, e.outs-Member, e.outs-Name, s.outs-Eval, s.outs-Return, s.outs-Var);
   call_of_no_function_run = λ d. simp (opening, e.outs-Call, e.outs-Func, e.outs-Literal, e.outs-Member, e.outs-Name, s.outs-Eval, s.outs-Var);

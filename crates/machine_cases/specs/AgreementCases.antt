@@ -3,8 +3,6 @@ use Rattle.std.specs.Prelude.{pos, true, false, List, [], ◌∷◌, codes, Some
 use Rattle.js_value.specs.declared.primitive.Kind.TheVariants as kind
 use Rattle.js_value.specs.declared.primitive.Primitive.TheVariants as primitive
 use Rattle.js_value.specs.declared.why.Why.TheVariants.{MinusZero}
-use Rattle.js_value.specs.declared.place.FuncNo.{FuncNo}
-use Rattle.js_tree.specs.Mentions.{Names}
 use Rattle.js_tree.specs.Refusals.{place}
 use Rattle.js_tree.specs.Trees.{expr, stmt, no, declared, declarator, func, script}
 use Rattle.js_tree.specs.declared.expression.ExprForm.TheVariants as e
@@ -25,7 +23,7 @@ nothing =
 
 -- of two scripts without functions
 abbrev pub AgreeAs : Outcome → Outcome → Type 0
-AgreeAs one other = Agree {C = FuncNo × Names} (λ s f names. (f, names)) nothing one nothing other
+AgreeAs one other = Agree [] one [] other
 
 -- code that ended normally, without host calls
 abbrev pub left : Heap → Outcome

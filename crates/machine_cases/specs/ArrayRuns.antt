@@ -3,7 +3,7 @@ use Rattle.std.specs.Prelude.{◌≡◌, ℕ, pos, true, false, [], ◌∷◌, c
 use Rattle.js_value.specs.declared.operator.BinaryOp.TheVariants as binary
 use Rattle.js_value.specs.declared.operator.UnaryOp.TheVariants as unary
 use Rattle.js_value.specs.declared.primitive.Primitive.TheVariants as primitive
-use Rattle.js_value.specs.declared.why.Why.TheVariants.{NotANumber, NumberSpelling}
+use Rattle.js_value.specs.declared.why.Why.TheVariants.{NotANumber, NumberSpelling, ObjectToPrimitive}
 use Rattle.js_tree.specs.declared.expression.ExprForm.TheVariants as e
 use Rattle.js_tree.specs.declared.expression.Field.TheVariants as field
 use Rattle.js_tree.specs.declared.statement.Script.{Script}

@@ -1,10 +1,8 @@
 -- Runs that leave functions which have captured cells: whether they agree, worked out by hand.
-use Rattle.std.specs.Prelude.{false, ℕ, [], ◌∷◌, codes, Some, None}
-use Rattle.js_value.specs.declared.place.FuncNo.{FuncNo}
-use Rattle.js_tree.specs.Mentions.{Names}
-use Rattle.js_tree.specs.Trees.{expr, stmt, no, func, script}
+use Rattle.std.specs.Prelude.{List, false, ℕ, [], ◌∷◌, codes, Some, None}
+use Rattle.js_tree.specs.Trees.{expr, stmt, no, func}
 use Rattle.js_tree.specs.declared.expression.ExprForm.TheVariants as e
-use Rattle.js_tree.specs.declared.statement.Script.{Script}
+use Rattle.js_tree.specs.declared.statement.Func.{Func}
 use Rattle.js_tree.specs.declared.statement.StmtForm.TheVariants as s
 use Rattle.plain_heap.specs.Heap.{Heap, add_object, new_cell, Environment}
 use Rattle.plain_heap.specs.Values.{number, CellNo}
@@ -14,13 +12,12 @@ use Rattle.js_machine.specs.Machine.Realm.{realm}
 use Rattle.js_machine.specs.Machine.Walks.{Ended, Normally}
 use Rattle.js_machine.specs.Machine.Creating.{function_state, prototype_state}
 
--- with one function, `function () { return n; }`
-abbrev pub reader : Script
-reader =
-    script [] (func 0 None [] (stmt 14 (s.Return (Some (expr 21 (e.Name (codes "n"))))) ∷ []) ∷ [])
+-- one function, `function () { return n; }`
+abbrev pub reader : List Func
+reader = func 0 None [] (stmt 14 (s.Return (Some (expr 21 (e.Name (codes "n"))))) ∷ []) ∷ []
 
 abbrev pub AgreeAsLeft : Heap → Heap → Type 0
-AgreeAsLeft h other = Agree {C = FuncNo × Names} (λ s f names. (f, names)) reader (Ended [] Normally h) reader (Ended [] Normally other)
+AgreeAsLeft h other = Agree reader (Ended [] Normally h) reader (Ended [] Normally other)
 
 -- the variables f and g hold two function objects of this code, made in these environments
 abbrev pub readers : Environment → Environment → Heap

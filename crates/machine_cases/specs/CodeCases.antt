@@ -3,7 +3,9 @@ use Rattle.std.specs.Prelude.{false, ◌≡◌, ℕ, pos, List, [], ◌∷◌, �
 use Rattle.js_value.specs.declared.operator.BinaryOp.TheVariants as binary
 use Rattle.js_value.specs.declared.primitive.Primitive.TheVariants as primitive
 use Rattle.js_tree.specs.Mentions.{Names}
-use Rattle.js_tree.specs.Trees.{expr, stmt, no, declared, declarator, func, script}
+use Rattle.js_tree.specs.Trees.{expr, stmt, no, declared, declarator, func, handler, script}
+use Rattle.js_tree.specs.declared.statement.Func.{Func}
+use Rattle.js_machine.specs.Machine.Codes.{code}
 use Rattle.js_tree.specs.declared.expression.ExprForm.TheVariants as e
 use Rattle.js_tree.specs.declared.statement.Script.{Script}
 use Rattle.js_tree.specs.declared.statement.StmtForm.TheVariants as s
@@ -36,7 +38,35 @@ after_two_names =
 
 -- where these are the free names of each function that is listed
 abbrev pub listed_text : Script → Names → Heap → List ℕ
-listed_text s free h = run_text (λ line. line) [] (queue_of (λ f. free) h Normally) Normally (listing_by (code_text s) (λ f. free) h Normally)
+listed_text s free h = run_text [] (queue_of (λ f. free) h Normally) Normally (listing_by (code s.funcs) (λ f. free) h Normally)
+
+-- ---- trees
+
+-- (function () { return B + A + B; }), for two names
+abbrev pub inner_tree : List ℕ → List ℕ → Script
+inner_tree b a =
+    script (stmt 0 (s.Eval (expr 0 (e.Func (no 0)))) ∷ []) (func 0 None [] (stmt 0 (s.Return (Some (expr 0 (e.Binary binary.Add (expr 0 (e.Binary binary.Add (expr 0 (e.Name b)) (expr 0 (e.Name a)))) (expr 0 (e.Name b)))))) ∷ []) ∷ [])
+
+-- (function (n) { try { n(m, e); } catch (e) { return function f() { return f(e, n, m); }; } })
+abbrev pub nested_code : List Func
+nested_code =
+    func 0 (Some (declared 9 (codes "g"))) (declared 11 (codes "n") ∷ [])
+    (stmt 14 (s.Try (stmt 16 (s.Eval (expr 18 (e.Call (expr 18 (e.Name (codes "n"))) (expr 20 (e.Name (codes "m")) ∷ expr 23 (e.Name (codes "e")) ∷ [])))) ∷ [])
+    (Some (handler 30 (codes "e") (stmt 40 (s.Return (Some (expr 47 (e.Func (no 1))))) ∷ []))) None) ∷ [])
+    ∷ func 47 (Some (declared 56 (codes "f"))) []
+    (stmt 62 (s.Return (Some (expr 69 (e.Call (expr 69 (e.Name (codes "f"))) (expr 71 (e.Name (codes "e")) ∷ expr 74 (e.Name (codes "n")) ∷ expr 77 (e.Name (codes "m")) ∷ []))))) ∷ [])
+    ∷ []
+
+-- the handler's name, the parameter and the own name are bound by the code; the handler's name is free before it
+abbrev pub nested_tree : Script
+nested_tree =
+    script (stmt 0 (s.Eval (expr 0 (e.Func (no 0)))) ∷ [])
+    (func 0 None (declared 0 (codes "n") ∷ [])
+    (stmt 0 (s.Try (stmt 0 (s.Eval (expr 0 (e.Call (expr 0 (e.Name (codes "n"))) (expr 0 (e.Name (codes "%1")) ∷ expr 0 (e.Name (codes "%2")) ∷ [])))) ∷ [])
+    (Some (handler 0 (codes "e") (stmt 0 (s.Return (Some (expr 0 (e.Func (no 1))))) ∷ []))) None) ∷ [])
+    ∷ func 0 (Some (declared 0 (codes "f"))) []
+    (stmt 0 (s.Return (Some (expr 0 (e.Call (expr 0 (e.Name (codes "f"))) (expr 0 (e.Name (codes "e")) ∷ expr 0 (e.Name (codes "n")) ∷ expr 0 (e.Name (codes "%1")) ∷ []))))) ∷ [])
+    ∷ [])
 
 abbrev pub two_names_text : List ℕ
 two_names_text =
@@ -61,5 +91,9 @@ pub record CodeCases : Type 0 where
   pub parameters : code_text two_names (no 0) [] ≡ codes "function ( a , b ) { return function ( ) { return b + a + b ; } ; }"
   -- the own name of a named expression is free in it, and isn't shown where it is declared
   pub own_bound : code_text own_name (no 0) (codes "g" ∷ []) ≡ codes "function ( ) { return %1 ; }"
+  -- the trees that listings hold
+  pub both_tree : code two_names.funcs (no 1) (codes "b" ∷ codes "a" ∷ []) ≡ inner_tree (codes "%1") (codes "%2")
+  pub one_tree : code two_names.funcs (no 1) (codes "a" ∷ []) ≡ inner_tree (codes "b") (codes "%1")
+  pub nested_tree_is : code nested_code (no 0) (codes "m" ∷ codes "e" ∷ []) ≡ nested_tree
   -- the cells stand in the order of the names
   pub listed : listed_text two_names (codes "b" ∷ codes "a" ∷ []) after_two_names ≡ two_names_text

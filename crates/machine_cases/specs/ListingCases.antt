@@ -4,7 +4,8 @@ use Rattle.std.specs.Option.{option_map}
 use Rattle.js_value.specs.Conversions.{is_same_text}
 use Rattle.js_value.specs.declared.place.FuncNo.{FuncNo}
 use Rattle.js_tree.specs.Mentions.{Names}
-use Rattle.js_tree.specs.Trees.{no}
+use Rattle.js_tree.specs.Trees.{no, declared, func, script}
+use Rattle.js_tree.specs.declared.statement.Script.{Script}
 use Rattle.plain_heap.specs.Heap.{Accessor, Array, new_cell, Heap, Key, Property, Properties, ObjectState, Plain, data_property, add_object, object_at, set_object, without}
 use Rattle.plain_heap.specs.Methods.{length_key}
 use Rattle.plain_heap.specs.Values.{Object, ObjNo, undefined, null, number}
@@ -15,9 +16,13 @@ use Rattle.js_machine.specs.Machine.Walks.{Ending, Normally, Thrown}
 use Rattle.machine_cases.specs.MethodCases.{depth_below}
 use Rattle.js_machine.specs.Machine.Creating.{function_state, prototype_state}
 
--- where no function has free names; of its code a function shows its number and the free names that a scope binds
-abbrev pub rows : Heap → Ending → List (Row (FuncNo × Names))
-rows h ending = listing_by (λ f names. (f, names)) (λ f. []) h ending
+-- In the place of its code a function shows its number, as a place, and the free names that it has captured, as its parameters.
+abbrev pub shown : FuncNo → Names → Script
+shown f names = script [] (func f.0 None (map (λ name. declared 0 name) names) [] ∷ [])
+
+-- where no function has free names
+abbrev pub rows : Heap → Ending → List Row
+rows h ending = listing_by shown (λ f. []) h ending
 
 -- an object with other properties
 abbrev pub changed : ObjNo → (Properties → Properties) → Heap → Heap
@@ -38,7 +43,7 @@ holding key o h = added global key (data_property (Object o) true true false) h
 abbrev pub after_number : Heap
 after_number = added global (codes "x") (data_property (number 3) true true false) realm
 
-abbrev pub number_rows : List (Row (FuncNo × Names))
+abbrev pub number_rows : List Row
 number_rows = RealmRow global false [] [] (DataLine (codes "x") (Listed (number 3)) true true false ∷ []) ∷ []
 
 -- ---- after `var a = {}; a.self = a;`
@@ -46,7 +51,7 @@ number_rows = RealmRow global false [] [] (DataLine (codes "x") (Listed (number 
 abbrev pub after_cycle : Heap
 after_cycle = add_object (plain (Some object_prototype) ((codes "self", data_property (Object 41) true true true) ∷ [])) (holding (codes "a") 41 realm)
 
-abbrev pub cycle_rows : List (Row (FuncNo × Names))
+abbrev pub cycle_rows : List Row
 cycle_rows =
     RealmRow global false [] [] (DataLine (codes "a") (NewObject 1) true true false ∷ [])
     ∷ NewRow 1 PlainObject (RealmObject object_prototype) false (DataLine (codes "self") (NewObject 1) true true true ∷ [])
@@ -58,10 +63,10 @@ abbrev pub after_function : Heap
 after_function =
     add_object (plain (Some object_prototype) []) (add_object (prototype_state 41) (add_object (function_state (no 0) [] false 0 43) (holding (codes "p") 42 (holding (codes "F") 41 realm))))
 
-abbrev pub function_rows : List (Row (FuncNo × Names))
+abbrev pub function_rows : List Row
 function_rows =
     RealmRow global false [] [] (DataLine (codes "F") (NewObject 1) true true false ∷ DataLine (codes "p") (NewObject 2) true true false ∷ [])
-    ∷ NewRow 1 (FunctionObject (no 0, []) false []) (RealmObject function_prototype) false
+    ∷ NewRow 1 (FunctionObject (shown (no 0) []) false []) (RealmObject function_prototype) false
     (DataLine (codes "length") (Listed (number 0)) false false false ∷ DataLine (codes "prototype") (NewObject 3) true false false ∷ [])
     ∷ NewRow 2 PlainObject (RealmObject object_prototype) false (DataLine (codes "constructor") (NewObject 1) true false true ∷ [])
     ∷ NewRow 3 PlainObject (RealmObject object_prototype) false []
@@ -76,7 +81,7 @@ abbrev pub after_realm_changes : Heap
 after_realm_changes =
     changed array_prototype (without (codes "push")) (changed 2 set_to_one (add_object (plain None ((codes "k", data_property (number 1) true true true) ∷ [])) (holding (codes "a") 41 realm)))
 
-abbrev pub realm_change_rows : List (Row (FuncNo × Names))
+abbrev pub realm_change_rows : List Row
 realm_change_rows =
     RealmRow global false [] [] (DataLine (codes "a") (NewObject 1) true true false ∷ [])
     ∷ RealmRow 2 false [] (DataLine (codes "defineProperty") (Listed (number 1)) true false true ∷ []) []
@@ -89,7 +94,7 @@ realm_change_rows =
 abbrev pub after_deletion : Heap
 after_deletion = changed global (without (codes "Array")) (added array_prototype (codes "x") (data_property (number 1) true true true) realm)
 
-abbrev pub deletion_rows : List (Row (FuncNo × Names))
+abbrev pub deletion_rows : List Row
 deletion_rows =
     RealmRow global false (codes "Array" ∷ []) [] [] ∷ RealmRow array_prototype false [] [] (DataLine (codes "x") (Listed (number 1)) true true true ∷ []) ∷ []
 
@@ -98,7 +103,7 @@ deletion_rows =
 abbrev pub after_throw : Heap
 after_throw = add_object (plain (Some object_prototype) ((codes "k", data_property (number 1) true true true) ∷ [])) realm
 
-abbrev pub throw_rows : List (Row (FuncNo × Names))
+abbrev pub throw_rows : List Row
 throw_rows = NewRow 1 PlainObject (RealmObject object_prototype) false (DataLine (codes "k") (Listed (number 1)) true true true ∷ []) ∷ []
 
 -- ---- an array that can't be extended and has an accessor whose getter is an object of the realm
@@ -118,7 +123,7 @@ fixed_array = record {
 abbrev pub after_array : Heap
 after_array = add_object fixed_array (holding (codes "a") 41 realm)
 
-abbrev pub array_rows : List (Row (FuncNo × Names))
+abbrev pub array_rows : List Row
 array_rows =
     RealmRow global false [] [] (DataLine (codes "a") (NewObject 1) true true false ∷ [])
     ∷ NewRow 1 ArrayObject (RealmObject array_prototype) true (DataLine length_key (Listed (number 1)) true false false ∷ AccessorLine (codes "0") (RealmObject function_prototype) (Listed undefined) true false ∷ [])
@@ -130,10 +135,10 @@ array_rows =
 abbrev pub after_capture : Heap
 after_capture = new_cell (number 1) (add_object (prototype_state 41) (add_object (function_state (no 0) ((codes "n", 0) ∷ []) false 0 42) (holding (codes "f") 41 realm)))
 
-abbrev pub capture_rows : List (Row (FuncNo × Names))
+abbrev pub capture_rows : List Row
 capture_rows =
     RealmRow global false [] [] (DataLine (codes "f") (NewObject 1) true true false ∷ [])
-    ∷ NewRow 1 (FunctionObject (no 0, codes "n" ∷ []) false (1 ∷ [])) (RealmObject function_prototype) false
+    ∷ NewRow 1 (FunctionObject (shown (no 0) (codes "n" ∷ [])) false (1 ∷ [])) (RealmObject function_prototype) false
     (DataLine (codes "length") (Listed (number 0)) false false false ∷ DataLine (codes "prototype") (NewObject 2) true false false ∷ [])
     ∷ NewRow 2 PlainObject (RealmObject object_prototype) false (DataLine (codes "constructor") (NewObject 1) true false true ∷ [])
     ∷ CellRow 1 (Listed (number 1))
@@ -149,4 +154,4 @@ pub record ListingCases : Type 0 where
   pub thrown_object : rows after_throw (Thrown (Object 41)) ≡ throw_rows
   pub unreached_object : rows after_throw Normally ≡ []
   pub an_array : rows after_array Normally ≡ array_rows
-  pub a_capture : listing_by (λ f names. (f, names)) (λ f. codes "n" ∷ codes "m" ∷ []) after_capture Normally ≡ capture_rows
+  pub a_capture : listing_by shown (λ f. codes "n" ∷ codes "m" ∷ []) after_capture Normally ≡ capture_rows

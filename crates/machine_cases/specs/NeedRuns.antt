@@ -1,6 +1,6 @@
 -- Where and why runs along choices stop at a symbol, worked out by hand: as a key, as a base, as a length, as a number that a built-in
 -- takes, and where any primitive would leave.
-use Rattle.std.specs.Prelude.{Bool, true, false, ◌≡◌, ℕ, pos, [], ◌∷◌, codes, Some, None}
+use Rattle.std.specs.Prelude.{List, false, Bool, true, false, ◌≡◌, ℕ, pos, [], ◌∷◌, codes, Some, None}
 use Rattle.js_value.specs.declared.operator.BinaryOp.TheVariants as binary
 use Rattle.js_value.specs.declared.operator.UnaryOp.TheVariants as unary
 use Rattle.js_value.specs.declared.primitive.Kind.TheVariants as kind
@@ -20,9 +20,12 @@ use Rattle.js_machine.specs.Machine.Realm.{realm}
 use Rattle.js_machine.specs.Machine.Events.{Argument, Base, Key, Length, Need, Lacks, Leaves}
 use Rattle.machine_cases.specs.RunCases.{deep}
 
--- the run of a script on the realm along no choices
+-- the run of a script on the realm along choices, and along none
+abbrev pub opened_along : List Bool → ℕ → Script → OpenRun
+opened_along choices d script = open_walk 200 [] [] choices (script_tree_within (deep d) (deep d) script realm)
+
 abbrev pub opened : ℕ → Script → OpenRun
-opened d script = open_walk 200 [] [] [] (script_tree_within (deep d) (deep d) script realm)
+opened = opened_along []
 
 -- the code ended or threw
 abbrev pub ended_so : Opened → Bool
@@ -145,7 +148,7 @@ pub record NeedRuns : Type 0 where
   pub defined_run : (d : ℕ) → opened d defined ≡ lacks Key 1
   pub behind_null_run : (d : ℕ) → is_ended (opened d behind_null) ≡ true
   pub base_of_member_run : (d : ℕ) → opened d base_of_member ≡ lacks Base 4
-  pub base_of_index_run : (d : ℕ) → opened d base_of_index ≡ lacks Base 4
+  pub base_of_index_run : (d : ℕ) → opened_along (false ∷ []) d base_of_index ≡ lacks Base 4
   pub base_and_key_run : (d : ℕ) → opened d base_and_key ≡ lacks Base 4
   pub base_of_target_run : (d : ℕ) → opened d base_of_target ≡ lacks Base 0
   pub base_deleted_run : (d : ℕ) → opened d base_deleted ≡ lacks Base 7

@@ -11,7 +11,7 @@ use Rattle.plain_heap.specs.Values.{Value, ObjNo}
 use Rattle.simple_runs.specs.Events as simple
 use Rattle.js_machine.specs.Machine.Functions.{bind_global_var}
 use Rattle.js_machine.specs.Machine.Objects.{Site}
-use Rattle.js_machine.specs.Machine.Trees.{Tree, in_turn}
+use Rattle.js_machine.specs.Machine.Events.{Tree, in_turn}
 use Rattle.simple_runs.proofs.GlobalNames.{heap_with, declared}
 use Rattle.simple_runs.proofs.Variables.{is_bound, declare_all, among_all, all_more, bound_declare, declare_bound, declare_again}
 

@@ -14,11 +14,11 @@ use Rattle.plain_heap.specs.Methods as M
 use Rattle.plain_heap.specs.Values.{Value, Prim, ObjNo}
 use Rattle.simple_runs.specs.Events as simple
 use Rattle.js_machine.specs.Machine.Functions.{bind_global_var}
-use Rattle.js_machine.specs.Machine.Names.{Reference, NameReference, OnGlobal, global_context, resolve_name, get_value, put_value}
-use Rattle.js_machine.specs.Machine.Numbers.{global}
+use Rattle.js_machine.specs.Machine.References.{Reference, NameReference, OnGlobal, global_context, resolve_name, get_value, put_value}
+use Rattle.js_machine.specs.Machine.RealmObjects.{global}
 use Rattle.js_machine.specs.Machine.Objects as CC
 use Rattle.js_machine.specs.Machine.Objects.{Site}
-use Rattle.js_machine.specs.Machine.Trees.{Tree}
+use Rattle.js_machine.specs.Machine.Events.{Tree}
 use Rattle.simple_runs.specs.SimpleRuns.{variable}
 use Rattle.simple_runs.proofs.GlobalVariables.{of_value, lookup_variables, put_variables, lookup_behind, put_behind, not_taken}
 
@@ -35,10 +35,10 @@ plain_key name is = by_same (is_same_text name (codes "__proto__")) refl
 
 module _ (own : Properties) (prototype : Option ObjNo) (rest : List ObjectState) where
   abbrev pub object_with : simple.Heap → ObjectState
-  object_with vs = record { class = Plain; prototype = prototype; extensible = true; properties = own ++ map variable vs }
+  object_with vs = record { class = Plain; prototype = prototype; depth = 1; extensible = true; properties = own ++ map variable vs }
 
   abbrev pub heap_with : simple.Heap → Heap
-  heap_with vs = record { objects = object_with vs ∷ rest; cells = []; scopes = [] }
+  heap_with vs = record { objects = object_with vs ∷ rest; cells = [] }
 
   module _ (free : (name : List ℕ) → is_simple_name name ≡ true → lookup name own ≡ None) where
     looked_up : (name : List ℕ) (vs : simple.Heap) → is_simple_name name ≡ true → lookup name (own ++ map variable vs) ≡ option_map of_value (simple.lookup name vs)
@@ -53,17 +53,17 @@ module _ (own : Properties) (prototype : Option ObjNo) (rest : List ObjectState)
 
     module _ (site : Site) (name : List ℕ) (is : is_simple_name name ≡ true) (vs : simple.Heap) where
       pub resolved : (p : Primitive) → simple.lookup name vs ≡ Some p → (k : Reference → Heap → Tree) (r : Value → Heap → Tree)
-          → resolve_name site global_context name (heap_with vs) k r ≡ k (NameReference name OnGlobal) (heap_with vs)
+          → resolve_name site (global_context false) name (heap_with vs) k r ≡ k (NameReference name OnGlobal false) (heap_with vs)
       unfolding resolve_name H.resolve CC.has_property M.has_property M.get_property
       resolved p bound k r = rw (plain_key name is, looked_up name vs is, bound) refl
 
       pub read : (p : Primitive) → simple.lookup name vs ≡ Some p → (k r : Value → Heap → Tree)
-          → get_value site (NameReference name OnGlobal) (heap_with vs) k r ≡ k (Prim p) (heap_with vs)
+          → get_value site (NameReference name OnGlobal false) (heap_with vs) k r ≡ k (Prim p) (heap_with vs)
       unfolding get_value CC.get M.get M.get_property
       read p bound k r = rw (plain_key name is, looked_up name vs is, bound) refl
 
       pub written : (p q : Primitive) → simple.lookup name vs ≡ Some p → (k : Unit {0} → Heap → Tree) (r : Value → Heap → Tree)
-          → put_value site (NameReference name OnGlobal) (Prim q) (heap_with vs) k r ≡ k tt (heap_with (simple.put name q vs))
+          → put_value site (NameReference name OnGlobal false) (Prim q) (heap_with vs) k r ≡ k tt (heap_with (simple.put name q vs))
       unfolding put_value CC.put M.put M.can_put CC.define M.define M.define_plain
       written p q bound k r = rw (plain_key name is, looked_up name vs is, bound) (rw (plain_key name is, looked_up name vs is, bound, put_there name q vs is) refl)
 

@@ -1,6 +1,6 @@
 -- The global object with variables behind its own properties: reading, writing and declaring them.
 use Rattle.std.proofs.Common.{◌≡◌, ℕ, Bool, true, false, List, [], ◌∷◌, ◌++◌, map, refl, ap, ◌∙◌, arith}
-use Rattle.std.specs.Prelude.{if◌then◌else◌, not, Some, None}
+use Rattle.std.specs.Prelude.{if◌then◌else◌, not, Some, None, unwrap_or}
 use Rattle.std.specs.List.{list_all}
 use Rattle.std.specs.Option.{option_map}
 use Rattle.std.specs.Str.{bytes_eq}
@@ -11,10 +11,9 @@ use Rattle.js_value.specs.Conversions.{is_same_text}
 use Rattle.js_value.specs.declared.primitive.Primitive.{Primitive}
 use Rattle.simple_scripts.specs.SimpleNames.{is_simple_name, is_taken}
 use Rattle.plain_heap.specs.Heap.{Key, Property, Properties, ObjectState, data_property, object_at, lookup, put_at}
-use Rattle.plain_heap.specs.Methods.{or_value}
 use Rattle.plain_heap.specs.Values.{Prim}
 use Rattle.simple_runs.specs.Events as simple
-use Rattle.js_machine.specs.Machine.Numbers.{global}
+use Rattle.js_machine.specs.Machine.RealmObjects.{global}
 use Rattle.js_machine.specs.Machine.Realm.{realm}
 use Rattle.simple_runs.specs.SimpleRuns.{variable}
 

@@ -33,10 +33,10 @@ use Rattle.simple_runs.specs.Simple as rules
 use Rattle.js_machine.specs.Machine.Expressions as EE
 use Rattle.js_machine.specs.Machine.Expressions.{Ev, site, binary_value, unary_value, expr_rule}
 use Rattle.js_machine.specs.Machine.Levels.{Setting, within, ev_of}
-use Rattle.js_machine.specs.Machine.Names.{global_context, get_value}
+use Rattle.js_machine.specs.Machine.References.{global_context, get_value}
 use Rattle.js_machine.specs.Machine.Objects.{Site}
 use Rattle.js_machine.specs.Machine.Operators as BB
-use Rattle.js_machine.specs.Machine.Trees.{Tree, Step, Leave, End}
+use Rattle.js_machine.specs.Machine.Events.{Tree, Step, Stop, Leaves, End, or_leave}
 use Rattle.simple_runs.proofs.GlobalNames.{heap_with, resolved, read}
 use Rattle.js_machine.proofs.Opening.{at_expr}
 use Rattle.simple_runs.proofs.Variables.{is_bound, is_plain, are_plain, plain_found}
@@ -165,7 +165,7 @@ module _ (own : Properties) (prototype : Option ObjNo) (rest : List ObjectState)
   -- the events by the rules of the whole language are those by the rules of simple scripts, in which no rule is missing
   abbrev pub Follows : simple.Tree → Tree → Type 0
   Follows (simple.Step place t) u = (more : Tree) × (u ≡ Step place more) × Follows t more
-  Follows (simple.Leave why place) u = u ≡ Leave why place
+  Follows (simple.Leave why place) u = u ≡ Stop (Leaves why) place
   Follows (simple.End vs) u = u ≡ End (at vs)
   Follows simple.NoRule u = ⊥
 
@@ -177,7 +177,7 @@ module _ (own : Properties) (prototype : Option ObjNo) (rest : List ObjectState)
   Continues vs ks k = (p : Primitive) → is_plain p ≡ true → Follows (ks p vs) (k (Prim p) (at vs))
 
   module _ (vs : simple.Heap) (ks : Primitive → simple.Heap → simple.Tree) (k r : Value → Heap → Tree) (after : Continues vs ks k) where
-    result : (place : Place) (n : Result ℤ Why) → Follows (simple.or_leave place n vs ks) (BB.entry place (numbered n) (at vs) k r)
+    result : (place : Place) (n : Result ℤ Why) → Follows (simple.or_leave place n vs ks) (or_leave place (BB.result_map Prim (numbered n)) (at vs) k r)
     result place (Ok n) = after (primitive.Number n) refl
     result place (Err why) = refl
 
@@ -188,7 +188,7 @@ module _ (own : Properties) (prototype : Option ObjNo) (rest : List ObjectState)
     negation_follows place p plain = cc
 
     arithmetic_follows : (place : Place) (op : ℤ → ℤ → Result ℤ Why) (p q : Primitive) → is_plain p ≡ true → is_plain q ≡ true
-        → Follows (rules.arithmetic place op p q vs ks) (BB.entry place (W.numeric op p q) (at vs) k r)
+        → Follows (rules.arithmetic place op p q vs ks) (or_leave place (BB.result_map Prim (W.numeric op p q)) (at vs) k r)
     unfolding V.to_number
     arithmetic_follows place op primitive.Undefined q plain plain' = refl
     arithmetic_follows place op (primitive.Number m) primitive.Undefined plain plain' = refl
@@ -206,7 +206,7 @@ module _ (own : Properties) (prototype : Option ObjNo) (rest : List ObjectState)
   module _ (free : (name : List ℕ) → is_simple_name name ≡ true → lookup name own ≡ None) (set : Setting) (calls : ℕ) where
     name_follows : (ev : Ev) (place : Place) (name : List ℕ) (vs : simple.Heap) (ks : Primitive → simple.Heap → simple.Tree) (k r : Value → Heap → Tree) (found : Option Primitive)
         → simple.lookup name vs ≡ found → is_simple_name name ≡ true → is_some found ≡ true → are_plain vs ≡ true → Continues vs ks k
-        → Follows (simple.or_no_rule found vs ks) (EE.name_rule ev global_context place name (at vs) k r)
+        → Follows (simple.or_no_rule found vs ks) (EE.name_rule ev (global_context false) place name (at vs) k r)
     unfolding EE.name_rule
     name_follows ev place name vs ks k r None is simple_name bound plain after = cc
     name_follows ev place name vs ks k r (Some p) is simple_name bound plain after =
@@ -216,21 +216,21 @@ module _ (own : Properties) (prototype : Option ObjNo) (rest : List ObjectState)
     abbrev pub Evaluates : ℕ → Type 0
     Evaluates d = (e : Expr) (vs : simple.Heap) (ks : Primitive → simple.Heap → simple.Tree) (k r : Value → Heap → Tree)
         → in_expr e ≤ d → is_sum (sum_in e) ≡ true → list_all (is_bound vs) (names_in e) ≡ true → are_plain vs ≡ true → Continues vs ks k
-        → Follows (rules.evaluation e vs ks) ((within set d calls).expr global_context e (at vs) k r)
+        → Follows (rules.evaluation e vs ks) ((within set d calls).expr (global_context false) e (at vs) k r)
 
     operands_follow : (d : ℕ) → Evaluates d → (a b : Expr) (vs : simple.Heap) (ks : Primitive → Primitive → simple.Heap → simple.Tree) (k : Value → Value → Heap → Tree) (r : Value → Heap → Tree)
         → in_expr a + in_expr b ≤ d → is_sum (joined (sum_in a) (sum_in b)) ≡ true → list_all (is_bound vs) (names_in a ++ names_in b) ≡ true → are_plain vs ≡ true
         → ((p q : Primitive) → is_plain p ≡ true → is_plain q ≡ true → Follows (ks p q vs) (k (Prim p) (Prim q) (at vs)))
-        → Follows (rules.evaluation a vs (λ p vs. rules.evaluation b vs (ks p))) ((within set d calls).expr global_context a (at vs) (λ v h. (within set d calls).expr global_context b h (k v) r) r)
+        → Follows (rules.evaluation a vs (λ p vs. rules.evaluation b vs (ks p))) ((within set d calls).expr (global_context false) a (at vs) (λ v h. (within set d calls).expr (global_context false) b h (k v) r) r)
     operands_follow d below a b vs ks k r few sums known plain after =
         let parts = joined_parts (sum_in a) (sum_in b) sums in
         let names = and_parts (list_all (is_bound vs) (names_in a)) (list_all (is_bound vs) (names_in b)) (sym (list_all-append (is_bound vs) (names_in a) (names_in b)) ∙ known) in
-        below a vs (λ p vs. rules.evaluation b vs (ks p)) (λ v h. (within set d calls).expr global_context b h (k v) r) r (omega (arith, few)) parts.0 names.0 plain
+        below a vs (λ p vs. rules.evaluation b vs (ks p)) (λ v h. (within set d calls).expr (global_context false) b h (k v) r) r (omega (arith, few)) parts.0 names.0 plain
         (λ p plain_p. below b vs (ks p) (k (Prim p)) r (omega (arith, few)) parts.1 names.1 plain (λ q plain_q. after p q plain_p plain_q))
 
     layer_follows : (d : ℕ) → Evaluates d → (place : Place) (l : Layer) (vs : simple.Heap) (ks : Primitive → simple.Heap → simple.Tree) (k r : Value → Heap → Tree)
         → nodes_at l ≤ d → is_sum (sum_at l) ≡ true → list_all (is_bound vs) (names_at l) ≡ true → are_plain vs ≡ true → Continues vs ks k
-        → Follows (run_at l place vs ks) (expr_rule (ev_of set (within set d) calls) global_context place l (at vs) k r)
+        → Follows (run_at l place vs ks) (expr_rule (ev_of set (within set d) calls) (global_context false) place l (at vs) k r)
     unfolding expr_rule EE.unary_rule EE.binary_rule rules.minus_rule rules.add_rule rules.subtract_rule rules.name_rule
     layer_follows d below place (ExprForm-F.Literal (primitive.Number n)) vs ks k r few sums known plain after = after (primitive.Number n) refl
     layer_follows d below place (ExprForm-F.Name name) vs ks k r few sums known plain after =
@@ -250,6 +250,6 @@ module _ (own : Properties) (prototype : Option ObjNo) (rest : List ObjectState)
     evaluates (suc d) e vs ks k r few sums known plain after =
         let l = out-ExprForm e.form in
         let is = nodes_are e l refl in
-        follows (rules.evaluation e vs ks) (simple.Step e.at (run_at l e.at vs ks)) _ (Step e.at (expr_rule (ev_of set (within set d) calls) global_context e.at l (at vs) k r))
-        (ap (λ (m : simple.Run Primitive). m vs ks) (run_is e l refl)) (at_expr set d calls global_context e (at vs) k r)
+        follows (rules.evaluation e vs ks) (simple.Step e.at (run_at l e.at vs ks)) _ (Step e.at (expr_rule (ev_of set (within set d) calls) (global_context false) e.at l (at vs) k r))
+        (ap (λ (m : simple.Run Primitive). m vs ks) (run_is e l refl)) (at_expr set d calls (global_context false) e (at vs) k r)
         (_, refl, layer_follows d (evaluates d) e.at l vs ks k r (omega (arith, is, few)) (ap is_sum (sym (sum_is e l refl)) ∙ sums) (ap (list_all (is_bound vs)) (sym (names_are e l refl)) ∙ known) plain after)

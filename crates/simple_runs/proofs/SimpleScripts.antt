@@ -26,17 +26,17 @@ use Rattle.plain_heap.specs.Methods.{get}
 use Rattle.simple_runs.specs.Events as simple
 use Rattle.simple_runs.specs.Runs as simple_runs
 use Rattle.simple_runs.specs.Simple as rules
-use Rattle.js_machine.specs.Machine.Choices.{Kept, OpenRun, EndsOrWants, EndsWithin, open_walk, open_steps, open_run}
+use Rattle.js_machine.specs.Machine.Choices.{Kept, OpenRun, OpenEnded, EndsOrWants, EndsWithin, open_walk, open_steps, open_run}
 use Rattle.js_machine.specs.Machine.Expressions.{site}
 use Rattle.js_machine.specs.Machine.Functions.{enter_global}
 use Rattle.js_machine.specs.Machine.Levels.{Setting, script_tree, script_tree_within, most_active, evaluation, beginning, within}
-use Rattle.js_machine.specs.Machine.Names.{global_context}
-use Rattle.js_machine.specs.Machine.Numbers.{global, object_prototype}
+use Rattle.js_machine.specs.Machine.References.{global_context}
+use Rattle.js_machine.specs.Machine.RealmObjects.{global, object_prototype}
 use Rattle.js_machine.specs.Machine.Realm.{realm}
 use Rattle.js_machine.specs.Machine.Statements.{statements}
-use Rattle.js_machine.specs.Machine.Trees.{Tree, End, Fail}
-use Rattle.js_machine.specs.Machine.Walks.{World, Ended, Normally, walk, plain, plain_from}
-use Rattle.simple_runs.specs.SimpleRuns.{realm_with, Says, SaysOpened, SimpleRuns}
+use Rattle.js_machine.specs.Machine.Events.{Tree, End, Fail}
+use Rattle.js_machine.specs.Machine.Walks.{behind, World, Ended, Normally, walk, plain, plain_from}
+use Rattle.simple_runs.specs.SimpleRuns.{realm_with, came, Says, SaysOpened, SimpleRuns}
 use Rattle.simple_runs.proofs.Declaring.{entered}
 use Rattle.simple_runs.proofs.GlobalNames.{heap_with, got_value}
 use Rattle.simple_runs.proofs.GlobalVariables.{global_own, no_own}
@@ -160,21 +160,22 @@ realm_is vs = refl
 
 -- ---- the script
 
-code_follows : (most turns : ℕ) (s : Script) → 60 ≤ most → list_all is_simple_statement s.body ≡ true → reads_declared s.body ≡ true
+code_follows : (most turns : ℕ) (s : Script) → s.directive ≡ false → 60 ≤ most → list_all is_simple_statement s.body ≡ true → reads_declared s.body ≡ true
     → FollowsIt (rules.script_tree s) (script_tree_within most turns s realm)
 unfolding rules.script_tree enter_global reads_declared realm
-code_follows zero turns s deep forms read = absurd (omega (arith, deep))
-code_follows (suc d) turns s deep forms read =
+code_follows zero turns s sloppy deep forms read = absurd (omega (arith, deep))
+code_follows (suc d) turns s sloppy deep forms read =
     let names = declared_names s.body in
     let set : Setting = record { functions = s.funcs; turns = turns } in
-    let start = statements ((within set (suc d) (suc d)).stmt global_context) s.body in
+    let start = statements ((within set (suc d) (suc d)).stmt (global_context false)) s.body in
     rw (
+      sloppy,
       no_functions s.body forms,
       vars_hoisted s.body forms,
       starts,
-      entered global_own (Some object_prototype) other_objects no_own (site (evaluation set (suc d) (suc d)) beginning) [] names [] (λ _ h. start h (λ flow h. End h) Fail) Fail (declared_simple s.body forms) refl,
+      entered global_own (Some object_prototype) other_objects no_own (site (evaluation set (suc d) (suc d)) beginning) [] names [] (λ _ h. start h (λ completion h. End h) Fail) Fail (declared_simple s.body forms) refl,
     )
-    (statements_follow global_own (Some object_prototype) other_objects no_own set (suc d) d (omega (arith, deep)) names s.body (declare_all [] names) (λ _ vs. simple.End vs) (λ flow h. End h) Fail
+    (statements_follow global_own (Some object_prototype) other_objects no_own set (suc d) d (omega (arith, deep)) names s.body (declare_all [] names) (λ _ vs. simple.End vs) (λ completion h. End h) Fail
     forms (all_among_declared names s.body forms (among_themselves names) read) (declare_all_bound names [], plain_declare_all names [] refl) (λ vs ready. refl))
 
 walk_follows : (w : World) (n : ℕ) (t : simple.Tree) (u : Tree) → FollowsIt t u → Says (simple_runs.walk n t) (walk w n [] u)
@@ -184,40 +185,44 @@ walk_follows w n (simple.Leave why at) u f = ap (walk w n []) f
 walk_follows w n (simple.End vs) u f = ap (walk w n []) f ∙ ap (Ended [] Normally) (sym (realm_is vs))
 walk_follows w n simple.NoRule u f = absurd f
 
-open_follows : (n calls : ℕ) (kept : Kept) (choices : List Bool) (t : simple.Tree) (u : Tree) → FollowsIt t u → SaysOpened (simple_runs.opened (simple_runs.walk n t)) choices (open_walk n calls kept choices u)
-open_follows zero calls kept choices (simple.Step at t) u f = ap (open_walk zero calls kept choices) f.1
-open_follows (suc n) calls kept choices (simple.Step at t) u f = rw f.1 (open_follows n calls kept choices t f.0 f.2)
-open_follows n calls kept choices (simple.Leave why at) u f = ap (open_walk n calls kept choices) f
-open_follows n calls kept choices (simple.End vs) u f = ap (open_walk n calls kept choices) f
-open_follows n calls kept choices simple.NoRule u f = absurd f
+open_follows : (n : ℕ) (kept : Kept) (choices : List Bool) (t : simple.Tree) (u : Tree) → FollowsIt t u → SaysOpened (simple_runs.opened (simple_runs.walk n t)) choices (open_walk n [] kept choices u)
+open_follows zero kept choices (simple.Step at t) u f = ap (open_walk zero [] kept choices) f.1
+open_follows (suc n) kept choices (simple.Step at t) u f = rw f.1 (open_follows n kept choices t f.0 f.2)
+open_follows n kept choices (simple.Leave why at) u f = ap (open_walk n [] kept choices) f
+open_follows n kept choices (simple.End vs) u f = ap (open_walk n [] kept choices) f ∙ ap (λ h. came (OpenEnded [] Normally h) choices) (sym (realm_is vs))
+open_follows n kept choices simple.NoRule u f = absurd f
 
-few_follow : (n calls : ℕ) (kept : Kept) (t : simple.Tree) (u : Tree) → FollowsIt t u → simple_runs.opened (simple_runs.walk n t) ≡ simple_runs.OpenEnded → open_steps calls kept u ≤ n
-few_follow zero calls kept (simple.Step at t) u f ended = cc
+few_follow : (n calls : ℕ) (kept : Kept) (t : simple.Tree) (u : Tree) → FollowsIt t u → simple_runs.IsOpenEnded (simple_runs.opened (simple_runs.walk n t)) → open_steps calls kept u ≤ n
+few_follow zero calls kept (simple.Step at t) u f ended = absurd ended
 few_follow (suc n) calls kept (simple.Step at t) u f ended = rw f.1 (omega (arith, few_follow n calls kept t f.0 f.2 ended))
-few_follow n calls kept (simple.Leave why at) u f ended = cc
+few_follow n calls kept (simple.Leave why at) u f ended = absurd ended
 few_follow n calls kept (simple.End vs) u f ended = rw f (omega arith)
 few_follow n calls kept simple.NoRule u f ended = absurd f
 
 -- ---- the laws
+
+not_true : (b : Bool) → not b ≡ true → b ≡ false
+not_true true is = sym is
+not_true false is = refl
 
 follows_script : (turns : ℕ) (s : Script) → is_simple s ≡ true → FollowsIt (rules.script_tree s) (script_tree turns s realm)
 unfolding is_simple script_tree
 follows_script turns s is =
     let read = and_parts (not s.directive && not (has_functions s.funcs) && list_all is_simple_statement s.body) (reads_declared s.body) is in
     let forms = and_parts (not s.directive && not (has_functions s.funcs)) (list_all is_simple_statement s.body) read.0 in
-    code_follows most_active turns s (omega arith) forms.1 read.1
+    code_follows most_active turns s (not_true s.directive (and_parts (not s.directive) (not (has_functions s.funcs)) forms.0).0) (omega arith) forms.1 read.1
 
 pub runs_as_simple : (s : Script) (w : World) (n : ℕ) → is_simple s ≡ true → Says (simple_runs.plain s n) (plain s w n)
-unfolding simple_runs.plain plain_from
+unfolding simple_runs.plain behind plain_from
 runs_as_simple s w n is = walk_follows w n (rules.script_tree s) (script_tree n s realm) (follows_script n s is)
 
 opens_as_simple : (s : Script) (choices : List Bool) (n : ℕ) → is_simple s ≡ true → SaysOpened (simple_runs.open_run s choices n) choices (open_run s choices n)
 unfolding simple_runs.plain simple_runs.open_run open_run
-opens_as_simple s choices n is = open_follows n 0 [] choices (rules.script_tree s) (script_tree n s realm) (follows_script n s is)
+opens_as_simple s choices n is = open_follows n [] choices (rules.script_tree s) (script_tree n s realm) (follows_script n s is)
 
-ends_as_said : (o : simple_runs.Opened) (choices : List Bool) (r : OpenRun) → o ≡ simple_runs.OpenEnded → SaysOpened o choices r → EndsOrWants r.came_to
-ends_as_said simple_runs.OpenEnded choices r is says = rw says tt
-ends_as_said _ choices r is says = cc
+ends_as_said : (o : simple_runs.Opened) (choices : List Bool) (r : OpenRun) → simple_runs.IsOpenEnded o → SaysOpened o choices r → EndsOrWants r.came_to
+ends_as_said (simple_runs.OpenEnded vs) choices r is says = rw says tt
+ends_as_said _ choices r is says = absurd is
 
 ends_as_simple : (s : Script) (n : ℕ) → is_simple s ≡ true → simple_runs.EndsWithin s n → EndsWithin s n
 unfolding simple_runs.plain simple_runs.open_run

@@ -1,24 +1,24 @@
 -- What is listed of the global object with variables behind its own properties: the variables, and nothing of other objects.
 use Rattle.std.proofs.Common.{◌≡◌, ℕ, zero, suc, ◌+◌, Bool, true, false, List, [], ◌∷◌, ◌++◌, length, map, take, drop, refl, ap, sym, ◌∙◌, arith}
-use Rattle.std.specs.Prelude.{not, if◌then◌else◌, nat_lt, slice_get, Option, Some, None}
+use Rattle.std.specs.Prelude.{nat_lt, slice_get, Option, Some, None}
 use Rattle.std.specs.List.{filter, flat_map, list_all}
-use Rattle.std.specs.Option.{option_map}
 use Rattle.std.proofs.Math.Seq.{take-append_seam, drop-append_seam}
 use Rattle.std.proofs.lemmas.Bool.{and_parts}
 use Rattle.std.proofs.lemmas.Cmp.{nat_list_eq_equiv}
 use Rattle.std.proofs.lemmas.List.Concat.{flat_map-append}
 use Rattle.js_value.specs.Conversions.{is_same_value}
 use Rattle.js_value.specs.declared.place.FuncNo.{FuncNo}
-use Rattle.js_tree.specs.Mentions.{Names, free_names}
+use Rattle.js_tree.specs.Mentions.{Names}
+use Rattle.js_tree.specs.declared.statement.Func.{Func}
 use Rattle.js_tree.specs.declared.statement.Script.{Script}
-use Rattle.plain_heap.specs.Heap.{Heap, Key, Property, Properties, Class, Plain, Array, Function, Builtin, ObjectState, resolve}
-use Rattle.plain_heap.specs.Methods.{or_value}
+use Rattle.plain_heap.specs.Heap.{Heap, Key, Property, Properties, ObjectState, resolve}
 use Rattle.plain_heap.specs.Values.{ObjNo, object_or_null}
 use Rattle.simple_runs.specs.Events as simple
 use Rattle.simple_runs.specs.Listing as listings
 use Rattle.simple_runs.specs.Runs as runs
-use Rattle.js_machine.specs.Machine.Listed.{FreeNames, Item, AnObject, ACell, Walked, Row, RealmRow, in_value, in_property, in_class, in_object, next_of, enter, advance, queue_from, queue_of, listed_value, listed_property, old_count, gone_keys, is_changed, differs, row_of_realm, rank, is_new_object, NewRow, realm_row, object_row, sort_of, row_of, listing_by, listing, Agree}
-use Rattle.js_machine.specs.Machine.Numbers.{global, object_prototype}
+use Rattle.js_machine.specs.Machine.Codes.{code}
+use Rattle.js_machine.specs.Machine.Listed.{free_in, FreeNames, Item, AnObject, ACell, Walked, Row, RealmRow, in_value, in_property, next_of, enter, advance, queue_from, queue_of, listed_property, old_count, gone_keys, is_changed, differs, realm_row, row_of, listing_by, listing, Agree}
+use Rattle.js_machine.specs.Machine.RealmObjects.{global, object_prototype}
 use Rattle.js_machine.specs.Machine.Realm.{realm, realm_count}
 use Rattle.js_machine.specs.Machine.Walks.{Outcome, Normally}
 use Rattle.simple_runs.specs.SimpleListings as wanted
@@ -52,20 +52,9 @@ module _ (own : Properties) (prototype : Option ObjNo) (rest : List ObjectState)
       ∙ ap (λ items. items_of own ++ items) (no_items vs)
       ∙ sym (flat_map-append (λ (p : Key × Property). in_property p.1) own [])
 
-  same_class : (vs : simple.Heap) (c : Class) → in_class free (with_these vs) c ≡ in_class free (with_these []) c
-  unfolding resolve
-  same_class vs Plain = refl
-  same_class vs Array = refl
-  same_class vs (Function f s) = refl
-  same_class vs (Builtin n) = refl
-
-  same_object : (vs : simple.Heap) (o : Option ObjectState) → unwrap_or (option_map (in_object free (with_these vs)) o) [] ≡ unwrap_or (option_map (in_object free (with_these [])) o) []
-  same_object vs None = refl
-  same_object vs (Some o) = ap (λ items. in_value (object_or_null o.prototype) ++ items_of o.properties ++ items) (same_class vs o.class)
-
   same_next : (vs : simple.Heap) (item : Item) → next_of free (with_these vs) item ≡ next_of free (with_these []) item
   same_next vs (AnObject zero) = ap (λ items. in_value (object_or_null prototype) ++ items ++ []) (same_items vs)
-  same_next vs (AnObject (suc n)) = same_object vs (slice_get rest n)
+  same_next vs (AnObject (suc n)) = refl
   same_next vs (ACell c) = refl
 
   same_advance : (vs : simple.Heap) (walked : Walked) (item : Option Item) → advance free (with_these vs) walked item ≡ advance free (with_these []) walked item
@@ -84,21 +73,10 @@ module _ (own : Properties) (prototype : Option ObjNo) (rest : List ObjectState)
 
   -- ---- the rows of all other objects are the same
 
-  module _ {C : Type 0} (code : FuncNo → Names → C) (queue : List Item) where
-    same_sort : (vs : simple.Heap) (c : Class) → sort_of code free (with_these vs) queue c ≡ sort_of code free (with_these []) queue c
-    unfolding resolve
-    same_sort vs Plain = refl
-    same_sort vs Array = refl
-    same_sort vs (Function f s) = refl
-    same_sort vs (Builtin n) = refl
-
+  module _ (code : FuncNo → Names → Script) (queue : List Item) where
     same_row : (vs : simple.Heap) (item : Item) → is_other item ≡ true → row_of code free (with_these vs) queue item ≡ row_of code free (with_these []) queue item
     same_row vs (AnObject zero) other = cc
-    same_row vs (AnObject (suc n)) other = by_state (slice_get rest n)
-      where
-        by_state : (o : Option ObjectState) → unwrap_or (option_map (λ state. object_row code free (with_these vs) queue (suc n) state ∷ []) o) [] ≡ unwrap_or (option_map (λ state. object_row code free (with_these []) queue (suc n) state ∷ []) o) []
-        by_state None = refl
-        by_state (Some o) = ap (λ sort. (if nat_lt (suc n) realm_count then row_of_realm queue (suc n) o else NewRow (rank is_new_object queue (AnObject (suc n))) sort (listed_value queue (object_or_null o.prototype)) (not o.extensible) (map (listed_property queue) o.properties)) ∷ []) (same_sort vs o.class)
+    same_row vs (AnObject (suc n)) other = refl
     same_row vs (ACell c) other = refl
 
     pub same_rows : (vs : simple.Heap) (items : List Item) → list_all is_other items ≡ true → flat_map (row_of code free (with_these vs) queue) items ≡ flat_map (row_of code free (with_these []) queue) items
@@ -126,8 +104,8 @@ lines_are : (queue : List Item) (vs : simple.Heap) → map (listed_property queu
 lines_are queue [] = refl
 lines_are queue (v ∷ vs) = ap (λ lines. wanted.line_of (listings.line v) ∷ lines) (lines_are queue vs)
 
-module _ {C : Type 0} (queue : List Item) where
-  abbrev row_now : Properties → Properties → ℕ → Row C
+module _ (queue : List Item) where
+  abbrev row_now : Properties → Properties → ℕ → Row
   row_now own now n = realm_row queue global false own (take n now) (drop n now)
 
   row_of_own : (own new : Properties) → row_now own (own ++ new) (old_count own (own ++ new)) ≡ realm_row queue global false own own new
@@ -143,7 +121,7 @@ none_changed = refl
 
 -- ---- the whole listing
 
-module _ {C : Type 0} (code : FuncNo → Names → C) (free : FreeNames) where
+module _ (code : FuncNo → Names → Script) (free : FreeNames) where
   abbrev realm_queue : List Item
   realm_queue = queue_of free realm Normally
 
@@ -170,7 +148,7 @@ module _ {C : Type 0} (code : FuncNo → Names → C) (free : FreeNames) where
       same_rows global_own (Some object_prototype) other_objects free code realm_queue vs others all_others
       ∙ ap (λ h. flat_map (row_of code free h realm_queue) others) (sym starts)
 
-  abbrev row_with : simple.Heap → Row C
+  abbrev row_with : simple.Heap → Row
   row_with vs = RealmRow global false [] [] (map wanted.line_of (map listings.line vs))
 
   global_row : (vs : simple.Heap) → row_of code free (with_names vs) realm_queue (AnObject global) ≡ row_with vs ∷ []
@@ -182,7 +160,7 @@ module _ {C : Type 0} (code : FuncNo → Names → C) (free : FreeNames) where
   unfolding listing_by
   listed_by h queue is = rw is refl
 
-  one_row : (vs : simple.Heap) (rows : List (Row C)) → filter differs rows ≡ [] → filter differs (row_with vs ∷ rows) ≡ map wanted.row_of (listings.listing vs)
+  one_row : (vs : simple.Heap) (rows : List Row) → filter differs rows ≡ [] → filter differs (row_with vs ∷ rows) ≡ map wanted.row_of (listings.listing vs)
   one_row [] rows none = none
   one_row (v ∷ vs) rows none = ap (λ rows. row_with (v ∷ vs) ∷ rows) none
 
@@ -196,13 +174,15 @@ module _ {C : Type 0} (code : FuncNo → Names → C) (free : FreeNames) where
 
 -- ---- runs that agree
 
-module _ {C : Type 0} (code : Script → FuncNo → Names → C) where
-  same_listing : (s r : Script) (vs us : simple.Heap) → listings.listing us ≡ listings.listing vs → listing code r (realm_with us) Normally ≡ listing code s (realm_with vs) Normally
-  same_listing s r vs us same = rows_hold (code r) (free_names r) us ∙ ap (map wanted.row_of) same ∙ sym (rows_hold (code s) (free_names s) vs)
+rows_in : (functions : List Func) (vs : simple.Heap) → listing functions (realm_with vs) Normally ≡ map wanted.row_of (listings.listing vs)
+rows_in functions vs = rows_hold (code functions) (free_in functions) vs
 
-  both_agree : (s r : Script) (a b : runs.Outcome) (o p : Outcome) → Says a o → Says b p → listings.Agree a b → Agree code s o r p
-  both_agree s r (runs.Ended vs) (runs.Ended us) o p is it agree = rw (is, it) (refl, tt, same_listing s r vs us agree)
-  both_agree s r a b o p is it agree = absurd agree
+same_listing : (functions others : List Func) (vs us : simple.Heap) → listings.listing us ≡ listings.listing vs → listing others (realm_with us) Normally ≡ listing functions (realm_with vs) Normally
+same_listing functions others vs us same = rows_in others us ∙ ap (map wanted.row_of) same ∙ sym (rows_in functions vs)
 
-  pub simple_listings : SimpleListings code
-  simple_listings = record { rows = λ code_of free vs. rows_hold code_of free vs; agree = both_agree }
+both_agree : (functions others : List Func) (a b : runs.Outcome) (o p : Outcome) → Says a o → Says b p → listings.Agree a b → Agree functions o others p
+both_agree functions others (runs.Ended vs) (runs.Ended us) o p is it agree = rw (is, it) (refl, tt, same_listing functions others vs us agree)
+both_agree functions others a b o p is it agree = absurd agree
+
+pub simple_listings : SimpleListings
+simple_listings = record { rows = rows_in; agree = both_agree }

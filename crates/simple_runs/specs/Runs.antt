@@ -1,5 +1,5 @@
 -- Runs of a simple script by its own rules. It asks no world for anything, and tests no input and no answer.
-use Rattle.std.specs.Prelude.{◌≡◌, ℕ, zero, suc, Bool, List, []}
+use Rattle.std.specs.Prelude.{ℕ, zero, suc, Bool, List, []}
 use Rattle.js_value.specs.declared.place.Place.{Place}
 use Rattle.js_value.specs.declared.why.Why.{Why}
 use Rattle.js_tree.specs.declared.statement.Script.{Script}
@@ -34,13 +34,13 @@ plain s n = walk n (script_tree s)
 -- ---- open runs
 
 pub data Opened : Type 0 where
-  OpenEnded : Opened
+  OpenEnded : Heap → Opened
   Stopped : Why → Place → Opened
   OpenOutOfSteps : Opened
   OpenUnruled : Opened
 
 abbrev pub opened : Outcome → Opened
-opened (Ended heap) = OpenEnded
+opened (Ended heap) = OpenEnded heap
 opened (Left why at) = Stopped why at
 opened OutOfSteps = OpenOutOfSteps
 opened Unruled = OpenUnruled
@@ -50,5 +50,9 @@ unfoldable pub open_run : Script → List Bool → ℕ → Opened
 open_run s choices n = opened (plain s n)
 
 -- all these runs together, which are one, end within so many steps
+abbrev pub IsOpenEnded : Opened → Type 0
+IsOpenEnded (OpenEnded heap) = Unit {0}
+IsOpenEnded _ = ⊥
+
 abbrev pub EndsWithin : Script → ℕ → Type 0
-EndsWithin s n = open_run s [] n ≡ OpenEnded
+EndsWithin s n = IsOpenEnded (open_run s [] n)

@@ -1,17 +1,18 @@
 -- How the run of a simple script by the rules of the whole language stands to its run by the rules of simple scripts.
-use Rattle.std.specs.Prelude.{◌≡◌, ℕ, Bool, true, false, List, [], ◌++◌, map, Some, IsTrue}
+use Rattle.std.specs.Prelude.{◌≡◌, ℕ, Bool, true, false, List, [], ◌++◌, map, Some, IsTrue, unwrap_or}
 use Rattle.std.specs.Option.{option_map}
 use Rattle.js_value.specs.declared.primitive.Primitive.{Primitive}
 use Rattle.simple_scripts.specs.SimpleScripts.{is_simple}
 use Rattle.simple_scripts.specs.SimpleNames.{is_simple_name}
 use Rattle.js_tree.specs.declared.statement.Script.{Script}
 use Rattle.plain_heap.specs.Heap.{Heap, Key, ObjectState, Property, data_property, object_at, set_object}
-use Rattle.plain_heap.specs.Methods.{or_value, get, GotValue}
+use Rattle.plain_heap.specs.Methods.{get, GotValue}
 use Rattle.plain_heap.specs.Values.{Prim}
 use Rattle.simple_runs.specs.Events.{lookup}
 use Rattle.simple_runs.specs.Runs as simple
-use Rattle.js_machine.specs.Machine.Choices.{OpenRun, Opened, OpenEnded, Stopped, Leaves, OpenOutOfSteps, EndsWithin, open_run}
-use Rattle.js_machine.specs.Machine.Numbers.{global}
+use Rattle.js_machine.specs.Machine.Events.{Leaves}
+use Rattle.js_machine.specs.Machine.Choices.{OpenRun, Opened, OpenEnded, Stopped, OpenOutOfSteps, EndsWithin, open_run}
+use Rattle.js_machine.specs.Machine.RealmObjects.{global}
 use Rattle.js_machine.specs.Machine.Realm.{realm}
 use Rattle.js_machine.specs.Machine.Walks.{World, Outcome, Ended, Left, OutOfSteps, Normally, plain}
 use Rattle.js_machine.specs.Machine.Worlds.{IsClosed, IsTyped}
@@ -39,7 +40,7 @@ abbrev pub came : Opened → List Bool → OpenRun
 came o choices = record { came_to = o; left = choices }
 
 abbrev pub SaysOpened : simple.Opened → List Bool → OpenRun → Type 0
-SaysOpened simple.OpenEnded choices o = o ≡ came OpenEnded choices
+SaysOpened (simple.OpenEnded vs) choices o = o ≡ came (OpenEnded [] Normally (realm_with vs)) choices
 SaysOpened (simple.Stopped why at) choices o = o ≡ came (Stopped (Leaves why) at) choices
 SaysOpened simple.OpenOutOfSteps choices o = o ≡ came OpenOutOfSteps choices
 SaysOpened simple.OpenUnruled choices o = ⊥

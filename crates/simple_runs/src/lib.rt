@@ -9,7 +9,6 @@ ghost use Rattle.js_value.specs.declared.primitive.Primitive.{Primitive};
 ghost use Rattle.js_tree.specs.Count.{nodes};
 ghost use Rattle.residual_form.specs.Small.{is_without_wrapper};
 ghost use Rattle.js_machine.specs.Machine.Walks.{World, Ended, Normally, plain};
-ghost use Rattle.script_text.specs.CodeLine.{code_text};
 ghost use Rattle.simple_runs.specs.Placed.{Places, placed};
 ghost use Rattle.simple_runs.specs.PlainVariables.{are_plain_variables};
 ghost use Rattle.simple_runs.specs.SimpleListings.{SimpleListings};
@@ -35,5 +34,5 @@ pub fn simple_run_law()
 /// their own rules agree.
 #[tactic(auto, using(crate::proofs::VariableListings::simple_listings))]
 pub fn simple_listing_law()
-    ensures { SimpleListings code_text }
+    ensures { SimpleListings }
 {}
