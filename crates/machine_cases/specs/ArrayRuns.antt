@@ -10,9 +10,9 @@ use Rattle.js_tree.specs.declared.statement.Script.{Script}
 use Rattle.js_tree.specs.declared.statement.StmtForm.TheVariants as s
 use Rattle.js_tree.specs.Refusals.{place}
 use Rattle.js_tree.specs.Trees.{expr, stmt, no, declared, declarator, func, script}
-use Rattle.plain_heap.specs.Values.{truth, number, text}
-use Rattle.js_machine.specs.Machine.RealmObjects.{RangeError}
-use Rattle.machine_cases.specs.RunCases.{Values, ThrewError, LeavesAt, no_world, deep, bare, seen}
+use Rattle.plain_heap.specs.Values.{undefined, truth, number, text}
+use Rattle.js_machine.specs.Machine.RealmObjects.{TypeError, RangeError}
+use Rattle.machine_cases.specs.RunCases.{Values, ThrewError, LeavesAt, StepsSpent, minus, no_world, deep, bare, seen}
 use Rattle.js_machine.specs.Machine.Realm.{realm}
 
 -- var x = Array.isArray([]), y = Array.isArray({length: 0}), z = Array.isArray(Array.prototype);

@@ -1,5 +1,5 @@
 -- Codes of functions in listings, worked out by hand: the k-th free name that a scope binds is written `%k` wherever it stands.
-use Rattle.std.specs.Prelude.{false, ◌≡◌, ℕ, pos, List, [], ◌∷◌, ◌++◌, codes, Some, None}
+use Rattle.std.specs.Prelude.{true, false, ◌≡◌, ℕ, pos, List, [], ◌∷◌, ◌++◌, codes, Some, None}
 use Rattle.js_value.specs.declared.operator.BinaryOp.TheVariants as binary
 use Rattle.js_value.specs.declared.primitive.Primitive.TheVariants as primitive
 use Rattle.js_tree.specs.Mentions.{Names}
@@ -12,9 +12,10 @@ use Rattle.js_tree.specs.declared.statement.StmtForm.TheVariants as s
 use Rattle.plain_heap.specs.Heap.{Heap, add_object, new_cell}
 use Rattle.plain_heap.specs.Values.{number}
 use Rattle.machine_cases.specs.ListingCases.{holding}
-use Rattle.js_machine.specs.Machine.Listed.{listing_by, queue_of}
+use Rattle.js_machine.specs.Machine.Listed.{CellRow, DataLine, FunctionObject, Listed, listing_by, NewObject, NewRow, PlainObject, RealmObject, RealmRow, Row}
 use Rattle.js_machine.specs.Machine.Realm.{realm}
-use Rattle.js_machine.specs.Machine.RunText.{line, run_text}
+use Rattle.js_machine.specs.Machine.RealmObjects.{global, function_prototype, object_prototype}
+use Rattle.js_machine.specs.Machine.RunText.{code_line}
 use Rattle.js_machine.specs.Machine.Walks.{Normally}
 use Rattle.script_text.specs.CodeLine.{code_text}
 use Rattle.js_machine.specs.Machine.Creating.{function_state, prototype_state}
@@ -35,10 +36,6 @@ abbrev pub after_two_names : Heap
 after_two_names =
     new_cell (number 2) (new_cell (number 1)
     (add_object (prototype_state 43) (add_object (function_state (no 1) ((codes "a", 0) ∷ (codes "b", 1) ∷ []) false 0 44) (add_object (prototype_state 41) (add_object (function_state (no 0) [] false 2 42) (holding (codes "f") 43 realm))))))
-
--- where these are the free names of each function that is listed
-abbrev pub listed_text : Script → Names → Heap → List ℕ
-listed_text s free h = run_text [] (queue_of (λ f. free) h Normally) Normally (listing_by (code s.funcs) (λ f. free) h Normally)
 
 -- ---- trees
 
@@ -68,20 +65,15 @@ nested_tree =
     (stmt 0 (s.Return (Some (expr 0 (e.Call (expr 0 (e.Name (codes "f"))) (expr 0 (e.Name (codes "e")) ∷ expr 0 (e.Name (codes "n")) ∷ expr 0 (e.Name (codes "%1")) ∷ []))))) ∷ [])
     ∷ [])
 
-abbrev pub two_names_text : List ℕ
-two_names_text =
-    line (codes "normal")
-    ++ line (codes "global")
-    ++ line (codes "  \"f\" = #1 we-")
-    ++ line (codes "#1 function Function.prototype")
-    ++ line (codes "  code function ( ) { return %1 + %2 + %1 ; }")
-    ++ line (codes "  cells @1 @2")
-    ++ line (codes "  \"length\" = 0 ---")
-    ++ line (codes "  \"prototype\" = #2 w--")
-    ++ line (codes "#2 object Object.prototype")
-    ++ line (codes "  \"constructor\" = #1 w-c")
-    ++ line (codes "@1 = 2")
-    ++ line (codes "@2 = 1")
+abbrev pub two_names_rows : List Row
+two_names_rows =
+    RealmRow global false [] [] (DataLine (codes "f") (NewObject 1) true true false ∷ [])
+    ∷ NewRow 1 (FunctionObject (inner_tree (codes "%1") (codes "%2")) false (1 ∷ 2 ∷ [])) (RealmObject function_prototype) false
+    (DataLine (codes "length") (Listed (number 0)) false false false ∷ DataLine (codes "prototype") (NewObject 2) true false false ∷ [])
+    ∷ NewRow 2 PlainObject (RealmObject object_prototype) false (DataLine (codes "constructor") (NewObject 1) true false true ∷ [])
+    ∷ CellRow 1 (Listed (number 2))
+    ∷ CellRow 2 (Listed (number 1))
+    ∷ []
 
 pub record CodeCases : Type 0 where
   pub both_bound : code_text two_names (no 1) (codes "b" ∷ codes "a" ∷ []) ≡ codes "function ( ) { return %1 + %2 + %1 ; }"
@@ -96,4 +88,6 @@ pub record CodeCases : Type 0 where
   pub one_tree : code two_names.funcs (no 1) (codes "a" ∷ []) ≡ inner_tree (codes "b") (codes "%1")
   pub nested_tree_is : code nested_code (no 0) (codes "m" ∷ codes "e" ∷ []) ≡ nested_tree
   -- the cells stand in the order of the names
-  pub listed : listed_text two_names (codes "b" ∷ codes "a" ∷ []) after_two_names ≡ two_names_text
+  pub listed : listing_by (code two_names.funcs) (λ f. codes "b" ∷ codes "a" ∷ []) after_two_names Normally ≡ two_names_rows
+  -- and their line in the text of a run
+  pub line_of_tree : code_line (inner_tree (codes "%1") (codes "%2")) ≡ codes "function ( ) { return %1 + %2 + %1 ; }"

@@ -25,7 +25,7 @@ use Rattle.js_tree.specs.declared.statement.Name.{Name}
 use Rattle.js_tree.specs.declared.statement.Script.{Script}
 use Rattle.js_tree.specs.declared.statement.Stmt.{Stmt, fold-Stmt}
 use Rattle.js_tree.specs.declared.statement.StmtForm.{StmtForm, roll-StmtForm}
-use Rattle.js_tree.specs.declared.statement.StmtForm.TheOpen.{StmtForm-F}
+use Rattle.js_tree.specs.declared.statement.StmtForm.TheOpen.{StmtForm-F, Case-F, Catch-F, Finally-F, Stmt-F}
 use Rattle.js_grammar.specs.FunctionOrder.{in_expr, in_maybe, in_declarators, in_start, in_target}
 use Rattle.lone_functions.specs.Alone.{alone}
 
@@ -93,14 +93,21 @@ module _ (captured : Names) where
   of_stmt_form (StmtForm-F.Throw x) bound = roll-StmtForm (StmtForm-F.Throw (expr captured bound x))
   of_stmt_form (StmtForm-F.Try body handler final) bound = roll-StmtForm (StmtForm-F.Try (each bound body) (maybe bound handler) (maybe bound final))
 
+  abbrev pub of_case : Case-F (Bound StmtForm) (Bound Case) (Bound Catch) (Bound Finally) (Bound Stmt) → Bound Case
+  of_case c bound = roll-Case (record { test = option_map (expr captured bound) c.test; body = each bound c.body })
+
   -- a handler binds its name in its body (12.14)
+  abbrev pub of_catch : Catch-F (Bound StmtForm) (Bound Case) (Bound Catch) (Bound Finally) (Bound Stmt) → Bound Catch
+  of_catch c bound = roll-Catch (record { at = c.at; name = c.name; body = each (c.name ∷ bound) c.body })
+
+  abbrev pub of_finally : Finally-F (Bound StmtForm) (Bound Case) (Bound Catch) (Bound Finally) (Bound Stmt) → Bound Finally
+  of_finally f bound = roll-Finally (record { body = each bound f.body })
+
+  abbrev pub of_stmt : Stmt-F (Bound StmtForm) (Bound Case) (Bound Catch) (Bound Finally) (Bound Stmt) → Bound Stmt
+  of_stmt t bound = record { at = t.at; form = t.form bound }
+
   abbrev pub stmt : Stmt → Bound Stmt
-  stmt =
-      fold-Stmt (Bound StmtForm) (Bound Case) (Bound Catch) (Bound Finally) (Bound Stmt) of_stmt_form
-      (λ c bound. roll-Case (record { test = option_map (expr captured bound) c.test; body = each bound c.body }))
-      (λ c bound. roll-Catch (record { at = c.at; name = c.name; body = each (c.name ∷ bound) c.body }))
-      (λ f bound. roll-Finally (record { body = each bound f.body }))
-      (λ t bound. record { at = t.at; form = t.form bound })
+  stmt = fold-Stmt (Bound StmtForm) (Bound Case) (Bound Catch) (Bound Finally) (Bound Stmt) of_stmt_form of_case of_catch of_finally of_stmt
 
 -- ---- functions (13): where they stand in code, and which names are bound there
 
