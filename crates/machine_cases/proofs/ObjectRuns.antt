@@ -63,6 +63,7 @@ object_runs = record {
   freezing_absent_run = λ d. simp (opening, e.outs-Call, e.outs-Member, e.outs-Name, e.outs-This, s.outs-Eval);
   called_run = λ d. simp (opening, e.outs-Binary, e.outs-Call, e.outs-Func, e.outs-Literal, e.outs-Member, e.outs-Name, e.outs-ObjectLit, e.outs-This, s.outs-Return, s.outs-Var, outs-Value);
   applied_run = λ d. simp (fold_out-Stmt, fold_out-StmtForm, at_expr, at_reference, at_stmt, at_call, at_builtin, e.outs-ArrayLit, e.outs-Binary, e.outs-Call, e.outs-Func, e.outs-Literal, e.outs-Member, e.outs-Name, e.outs-ObjectLit, e.outs-This, s.outs-Return, s.outs-Var, outs-Value);
+  applied_to_two_run = λ d. simp (fold_out-Stmt, fold_out-StmtForm, at_expr, at_reference, at_stmt, at_call, at_builtin, e.outs-ArrayLit, e.outs-Call, e.outs-Func, e.outs-Literal, e.outs-Member, e.outs-Name, s.outs-Return, s.outs-Var);
   applied_to_nothing_run = λ d. simp (opening, e.outs-Call, e.outs-Func, e.outs-Literal, e.outs-Member, e.outs-Name, s.outs-Return, s.outs-Var);
   applied_to_number_run = λ d. simp (opening, e.outs-Call, e.outs-Func, e.outs-Literal, e.outs-Member, e.outs-Name, s.outs-Eval, s.outs-Return, s.outs-Var);
   call_of_no_function_run = λ d. simp (opening, e.outs-Call, e.outs-Func, e.outs-Literal, e.outs-Member, e.outs-Name, s.outs-Eval, s.outs-Var);

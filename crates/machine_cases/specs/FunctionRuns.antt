@@ -15,9 +15,13 @@ use Rattle.js_machine.specs.Machine.RealmObjects.{TypeError}
 use Rattle.machine_cases.specs.RunCases.{Values, ThrewError, LeavesAt, no_world, deep, bare, seen}
 use Rattle.js_machine.specs.Machine.Realm.{realm}
 
--- function make() { var n = 0; return { inc: function () { n = n + 1; return n; }, get: function () { return n; } }; } var c = make(); c.inc(); c.inc(); var x = c.get();
+-- function make() { var n = 0; return {inc: function () { n = n + 1; return n; }}; } var c = make(); c.inc(); var x = c.inc();
 abbrev pub counter : Script
-counter = script (stmt 0 (s.FuncDecl (no 0)) ∷ stmt 117 (s.Var (declarator 121 (codes "c") (Some (expr 125 (e.Call (expr 125 (e.Name (codes "make"))) []))) ∷ [])) ∷ stmt 133 (s.Eval (expr 133 (e.Call (expr 133 (e.Member (expr 133 (e.Name (codes "c"))) (codes "inc"))) []))) ∷ stmt 142 (s.Eval (expr 142 (e.Call (expr 142 (e.Member (expr 142 (e.Name (codes "c"))) (codes "inc"))) []))) ∷ stmt 151 (s.Var (declarator 155 (codes "x") (Some (expr 159 (e.Call (expr 159 (e.Member (expr 159 (e.Name (codes "c"))) (codes "get"))) []))) ∷ [])) ∷ []) (func 0 (Some (declared 9 (codes "make"))) [] (stmt 18 (s.Var (declarator 22 (codes "n") (Some (expr 26 (e.Literal (primitive.Number (pos 0))))) ∷ [])) ∷ stmt 29 (s.Return (Some (expr 36 (e.ObjectLit (field.Value (place 38) (codes "inc") (expr 43 (e.Func (no 1))) ∷ field.Value (place 81) (codes "get") (expr 86 (e.Func (no 2))) ∷ []))))) ∷ []) ∷ func 43 None [] (stmt 57 (s.Eval (expr 57 (e.Assign (expr 57 (e.Name (codes "n"))) None (expr 61 (e.Binary binary.Add (expr 61 (e.Name (codes "n"))) (expr 65 (e.Literal (primitive.Number (pos 1))))))))) ∷ stmt 68 (s.Return (Some (expr 75 (e.Name (codes "n"))))) ∷ []) ∷ func 86 None [] (stmt 100 (s.Return (Some (expr 107 (e.Name (codes "n"))))) ∷ []) ∷ [])
+counter = script (stmt 0 (s.FuncDecl (no 0)) ∷ stmt 83 (s.Var (declarator 87 (codes "c") (Some (expr 91 (e.Call (expr 91 (e.Name (codes "make"))) []))) ∷ [])) ∷ stmt 99 (s.Eval (expr 99 (e.Call (expr 99 (e.Member (expr 99 (e.Name (codes "c"))) (codes "inc"))) []))) ∷ stmt 108 (s.Var (declarator 112 (codes "x") (Some (expr 116 (e.Call (expr 116 (e.Member (expr 116 (e.Name (codes "c"))) (codes "inc"))) []))) ∷ [])) ∷ []) (func 0 (Some (declared 9 (codes "make"))) [] (stmt 18 (s.Var (declarator 22 (codes "n") (Some (expr 26 (e.Literal (primitive.Number (pos 0))))) ∷ [])) ∷ stmt 29 (s.Return (Some (expr 36 (e.ObjectLit (field.Value (place 37) (codes "inc") (expr 42 (e.Func (no 1))) ∷ []))))) ∷ []) ∷ func 42 None [] (stmt 56 (s.Eval (expr 56 (e.Assign (expr 56 (e.Name (codes "n"))) None (expr 60 (e.Binary binary.Add (expr 60 (e.Name (codes "n"))) (expr 64 (e.Literal (primitive.Number (pos 1))))))))) ∷ stmt 67 (s.Return (Some (expr 74 (e.Name (codes "n"))))) ∷ []) ∷ [])
+
+-- function make() { var n = 0; return {inc: function () { n = 1; }, get: function () { return n; }}; } var c = make(); c.inc(); var x = c.get();
+abbrev pub shared_variable : Script
+shared_variable = script (stmt 0 (s.FuncDecl (no 0)) ∷ stmt 101 (s.Var (declarator 105 (codes "c") (Some (expr 109 (e.Call (expr 109 (e.Name (codes "make"))) []))) ∷ [])) ∷ stmt 117 (s.Eval (expr 117 (e.Call (expr 117 (e.Member (expr 117 (e.Name (codes "c"))) (codes "inc"))) []))) ∷ stmt 126 (s.Var (declarator 130 (codes "x") (Some (expr 134 (e.Call (expr 134 (e.Member (expr 134 (e.Name (codes "c"))) (codes "get"))) []))) ∷ [])) ∷ []) (func 0 (Some (declared 9 (codes "make"))) [] (stmt 18 (s.Var (declarator 22 (codes "n") (Some (expr 26 (e.Literal (primitive.Number (pos 0))))) ∷ [])) ∷ stmt 29 (s.Return (Some (expr 36 (e.ObjectLit (field.Value (place 37) (codes "inc") (expr 42 (e.Func (no 1))) ∷ field.Value (place 66) (codes "get") (expr 71 (e.Func (no 2))) ∷ []))))) ∷ []) ∷ func 42 None [] (stmt 56 (s.Eval (expr 56 (e.Assign (expr 56 (e.Name (codes "n"))) None (expr 60 (e.Literal (primitive.Number (pos 1))))))) ∷ []) ∷ func 71 None [] (stmt 85 (s.Return (Some (expr 92 (e.Name (codes "n"))))) ∷ []) ∷ [])
 
 -- function make(n) { return function () { return n; }; } var a = make(1); make(2); var x = a();
 abbrev pub own_cells : Script
@@ -93,6 +97,7 @@ thrown_in_function = script (stmt 0 (s.FuncDecl (no 0)) ∷ stmt 26 (s.Var (decl
 
 pub record FunctionRuns : Type 0 where
   pub counter_run : (d : ℕ) → seen bare (codes "x" ∷ []) (deep d) no_world counter 300 ≡ Values (Some (number 2) ∷ [])
+  pub shared_variable_run : (d : ℕ) → seen bare (codes "x" ∷ []) (deep d) no_world shared_variable 300 ≡ Values (Some (number 1) ∷ [])
   pub own_cells_run : (d : ℕ) → seen bare (codes "x" ∷ []) (deep d) no_world own_cells 200 ≡ Values (Some (number 1) ∷ [])
   pub doubled_parameters_run : (d : ℕ) → seen bare (codes "x" ∷ codes "y" ∷ []) (deep d) no_world doubled_parameters 200 ≡ Values (Some (number 2) ∷ Some undefined ∷ [])
   pub parameter_and_function_run : (d : ℕ) → seen bare (codes "x" ∷ []) (deep d) no_world parameter_and_function 200 ≡ Values (Some (text (codes "function")) ∷ [])

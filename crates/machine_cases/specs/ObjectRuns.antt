@@ -147,9 +147,13 @@ freezing_absent = script (stmt 0 (s.Eval (expr 0 (e.Call (expr 0 (e.Member (expr
 abbrev pub called : Script
 called = script (stmt 0 (s.Var (declarator 4 (codes "f") (Some (expr 8 (e.Func (no 0)))) ∷ [])) ∷ stmt 52 (s.Var (declarator 56 (codes "x") (Some (expr 60 (e.Call (expr 60 (e.Member (expr 60 (e.Name (codes "f"))) (codes "call"))) (expr 67 (e.ObjectLit (field.Value (place 68) (codes "k") (expr 71 (e.Literal (primitive.Number (pos 1)))) ∷ [])) ∷ expr 75 (e.Literal (primitive.Number (pos 2))) ∷ expr 78 (e.Literal (primitive.Number (pos 3))) ∷ [])))) ∷ [])) ∷ []) (func 8 None (declared 18 (codes "a") ∷ declared 21 (codes "b") ∷ []) (stmt 26 (s.Return (Some (expr 33 (e.Binary binary.Add (expr 33 (e.Binary binary.Add (expr 33 (e.Member (expr 33 e.This) (codes "k"))) (expr 42 (e.Name (codes "a"))))) (expr 46 (e.Name (codes "b"))))))) ∷ []) ∷ [])
 
--- var f = function (a, b) { return this.k + a + b; }; var x = f.apply({k: 1}, [2, 3]);
+-- var f = function (a) { return this.k + a; }; var x = f.apply({k: 1}, [2]);
 abbrev pub applied : Script
-applied = script (stmt 0 (s.Var (declarator 4 (codes "f") (Some (expr 8 (e.Func (no 0)))) ∷ [])) ∷ stmt 52 (s.Var (declarator 56 (codes "x") (Some (expr 60 (e.Call (expr 60 (e.Member (expr 60 (e.Name (codes "f"))) (codes "apply"))) (expr 68 (e.ObjectLit (field.Value (place 69) (codes "k") (expr 72 (e.Literal (primitive.Number (pos 1)))) ∷ [])) ∷ expr 76 (e.ArrayLit (Some (expr 77 (e.Literal (primitive.Number (pos 2)))) ∷ Some (expr 80 (e.Literal (primitive.Number (pos 3)))) ∷ [])) ∷ [])))) ∷ [])) ∷ []) (func 8 None (declared 18 (codes "a") ∷ declared 21 (codes "b") ∷ []) (stmt 26 (s.Return (Some (expr 33 (e.Binary binary.Add (expr 33 (e.Binary binary.Add (expr 33 (e.Member (expr 33 e.This) (codes "k"))) (expr 42 (e.Name (codes "a"))))) (expr 46 (e.Name (codes "b"))))))) ∷ []) ∷ [])
+applied = script (stmt 0 (s.Var (declarator 4 (codes "f") (Some (expr 8 (e.Func (no 0)))) ∷ [])) ∷ stmt 45 (s.Var (declarator 49 (codes "x") (Some (expr 53 (e.Call (expr 53 (e.Member (expr 53 (e.Name (codes "f"))) (codes "apply"))) (expr 61 (e.ObjectLit (field.Value (place 62) (codes "k") (expr 65 (e.Literal (primitive.Number (pos 1)))) ∷ [])) ∷ expr 69 (e.ArrayLit (Some (expr 70 (e.Literal (primitive.Number (pos 2)))) ∷ [])) ∷ [])))) ∷ [])) ∷ []) (func 8 None (declared 18 (codes "a") ∷ []) (stmt 23 (s.Return (Some (expr 30 (e.Binary binary.Add (expr 30 (e.Member (expr 30 e.This) (codes "k"))) (expr 39 (e.Name (codes "a"))))))) ∷ []) ∷ [])
+
+-- var f = function (a, b) { return b; }; var x = f.apply(null, [2, 3]);
+abbrev pub applied_to_two : Script
+applied_to_two = script (stmt 0 (s.Var (declarator 4 (codes "f") (Some (expr 8 (e.Func (no 0)))) ∷ [])) ∷ stmt 39 (s.Var (declarator 43 (codes "x") (Some (expr 47 (e.Call (expr 47 (e.Member (expr 47 (e.Name (codes "f"))) (codes "apply"))) (expr 55 (e.Literal primitive.Null) ∷ expr 61 (e.ArrayLit (Some (expr 62 (e.Literal (primitive.Number (pos 2)))) ∷ Some (expr 65 (e.Literal (primitive.Number (pos 3)))) ∷ [])) ∷ [])))) ∷ [])) ∷ []) (func 8 None (declared 18 (codes "a") ∷ declared 21 (codes "b") ∷ []) (stmt 26 (s.Return (Some (expr 33 (e.Name (codes "b"))))) ∷ []) ∷ [])
 
 -- var f = function (a) { return a; }; var x = f.apply(null, null);
 abbrev pub applied_to_nothing : Script
@@ -217,7 +221,8 @@ pub record ObjectRuns : Type 0 where
   pub not_sealed_run : (d : ℕ) → seen realm (codes "x" ∷ codes "y" ∷ []) (deep d) no_world not_sealed 200 ≡ Values (Some (truth false) ∷ Some (truth true) ∷ [])
   pub freezing_absent_run : (d : ℕ) → seen realm [] (deep d) no_world freezing_absent 200 ≡ LeavesAt AbsentBuiltin 0
   pub called_run : (d : ℕ) → seen realm (codes "x" ∷ []) (deep d) no_world called 200 ≡ Values (Some (number 6) ∷ [])
-  pub applied_run : (d : ℕ) → seen realm (codes "x" ∷ []) (deep d) no_world applied 200 ≡ Values (Some (number 6) ∷ [])
+  pub applied_run : (d : ℕ) → seen realm (codes "x" ∷ []) (deep d) no_world applied 200 ≡ Values (Some (number 3) ∷ [])
+  pub applied_to_two_run : (d : ℕ) → seen realm (codes "x" ∷ []) (deep d) no_world applied_to_two 200 ≡ Values (Some (number 3) ∷ [])
   pub applied_to_nothing_run : (d : ℕ) → seen realm (codes "x" ∷ []) (deep d) no_world applied_to_nothing 200 ≡ Values (Some undefined ∷ [])
   pub applied_to_number_run : (d : ℕ) → seen realm [] (deep d) no_world applied_to_number 200 ≡ ThrewError TypeError
   pub call_of_no_function_run : (d : ℕ) → seen realm [] (deep d) no_world call_of_no_function 200 ≡ ThrewError TypeError

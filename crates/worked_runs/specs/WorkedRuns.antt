@@ -15,7 +15,6 @@ use Rattle.js_machine.specs.Machine.RunText.{line, outcome_text}
 use Rattle.js_machine.specs.Machine.Walks.{Left, plain}
 use Rattle.machine_cases.specs.RunCases.{no_world}
 use Rattle.machine_cases.specs.TextCases.{a_number_text, a_cycle_text, a_function_text, realm_changes_text, function_script}
-use Rattle.js_machine.specs.Machine.Creating.{function}
 
 -- no text
 abbrev pub nothing : Script
