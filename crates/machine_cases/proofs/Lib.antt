@@ -5,6 +5,8 @@ pub mod StatementRuns
 pub mod FunctionRuns
 pub mod ObjectRuns
 pub mod ArrayRuns
+pub mod StrictRuns
+pub mod ThrownRuns
 pub mod ChoiceRuns
 pub mod ListingCases
 pub mod RealmCases

@@ -15,9 +15,9 @@ use Rattle.js_machine.specs.Machine.RealmObjects.{TypeError}
 use Rattle.machine_cases.specs.RunCases.{Values, ThrewError, LeavesAt, no_world, deep, bare, seen}
 use Rattle.js_machine.specs.Machine.Realm.{realm}
 
--- function make() { var n = 0; return {inc: function () { n = n + 1; return n; }}; } var c = make(); c.inc(); var x = c.inc();
+-- function make() { var n = 0; return function () { n = n + 1; return n; }; } var c = make(); c(); var x = c();
 abbrev pub counter : Script
-counter = script (stmt 0 (s.FuncDecl (no 0)) ∷ stmt 83 (s.Var (declarator 87 (codes "c") (Some (expr 91 (e.Call (expr 91 (e.Name (codes "make"))) []))) ∷ [])) ∷ stmt 99 (s.Eval (expr 99 (e.Call (expr 99 (e.Member (expr 99 (e.Name (codes "c"))) (codes "inc"))) []))) ∷ stmt 108 (s.Var (declarator 112 (codes "x") (Some (expr 116 (e.Call (expr 116 (e.Member (expr 116 (e.Name (codes "c"))) (codes "inc"))) []))) ∷ [])) ∷ []) (func 0 (Some (declared 9 (codes "make"))) [] (stmt 18 (s.Var (declarator 22 (codes "n") (Some (expr 26 (e.Literal (primitive.Number (pos 0))))) ∷ [])) ∷ stmt 29 (s.Return (Some (expr 36 (e.ObjectLit (field.Value (place 37) (codes "inc") (expr 42 (e.Func (no 1))) ∷ []))))) ∷ []) ∷ func 42 None [] (stmt 56 (s.Eval (expr 56 (e.Assign (expr 56 (e.Name (codes "n"))) None (expr 60 (e.Binary binary.Add (expr 60 (e.Name (codes "n"))) (expr 64 (e.Literal (primitive.Number (pos 1))))))))) ∷ stmt 67 (s.Return (Some (expr 74 (e.Name (codes "n"))))) ∷ []) ∷ [])
+counter = script (stmt 0 (s.FuncDecl (no 0)) ∷ stmt 76 (s.Var (declarator 80 (codes "c") (Some (expr 84 (e.Call (expr 84 (e.Name (codes "make"))) []))) ∷ [])) ∷ stmt 92 (s.Eval (expr 92 (e.Call (expr 92 (e.Name (codes "c"))) []))) ∷ stmt 97 (s.Var (declarator 101 (codes "x") (Some (expr 105 (e.Call (expr 105 (e.Name (codes "c"))) []))) ∷ [])) ∷ []) (func 0 (Some (declared 9 (codes "make"))) [] (stmt 18 (s.Var (declarator 22 (codes "n") (Some (expr 26 (e.Literal (primitive.Number (pos 0))))) ∷ [])) ∷ stmt 29 (s.Return (Some (expr 36 (e.Func (no 1))))) ∷ []) ∷ func 36 None [] (stmt 50 (s.Eval (expr 50 (e.Assign (expr 50 (e.Name (codes "n"))) None (expr 54 (e.Binary binary.Add (expr 54 (e.Name (codes "n"))) (expr 58 (e.Literal (primitive.Number (pos 1))))))))) ∷ stmt 61 (s.Return (Some (expr 68 (e.Name (codes "n"))))) ∷ []) ∷ [])
 
 -- function make() { var n = 0; return {inc: function () { n = 1; }, get: function () { return n; }}; } var c = make(); c.inc(); var x = c.get();
 abbrev pub shared_variable : Script

@@ -18,6 +18,14 @@ use Rattle.machine_cases.specs.MethodCases.{depth_below}
 abbrev pub given : Primitive → Answer
 given value = record { value = value; threw = false }
 
+-- an answer that is thrown
+abbrev pub thrown_answer : Primitive → Answer
+thrown_answer value = record { value = value; threw = true }
+
+-- a world without inputs that gives these answers
+abbrev pub answering : List Answer → World
+answering answers = record { inputs = []; answers = answers }
+
 abbrev pub no_world : World
 no_world = record { inputs = []; answers = [] }
 

@@ -4,6 +4,8 @@
 ghost use Rattle.machine_cases.specs.MethodCases.{MethodCases};
 ghost use Rattle.machine_cases.specs.ExpressionRuns.{ExpressionRuns};
 ghost use Rattle.machine_cases.specs.WorldRuns.{WorldRuns};
+ghost use Rattle.machine_cases.specs.StrictRuns.{StrictRuns};
+ghost use Rattle.machine_cases.specs.ThrownRuns.{ThrownRuns};
 ghost use Rattle.machine_cases.specs.StatementRuns.{StatementRuns};
 ghost use Rattle.machine_cases.specs.FunctionRuns.{FunctionRuns};
 ghost use Rattle.machine_cases.specs.ObjectRuns.{ObjectRuns};
@@ -37,6 +39,19 @@ pub fn run_cases()
     ensures objects { ObjectRuns }
     ensures arrays { ArrayRuns }
     ensures worlds { WorldRuns }
+{}
+
+/// Runs of strict code, and of code beside it that isn't, worked out by hand: its `this`, changes that are refused, names that
+/// nothing declares, and functions in strict functions (8.7.2, 10.1.1, 10.4.3, 11.4.1).
+#[tactic(auto, using(crate::proofs::StrictRuns::strict_runs))]
+pub fn strict_cases()
+    ensures { StrictRuns }
+{}
+
+/// Runs in worlds whose answers to host calls are thrown, worked out by hand.
+#[tactic(auto, using(crate::proofs::ThrownRuns::thrown_runs))]
+pub fn thrown_cases()
+    ensures { ThrownRuns }
 {}
 
 /// Runs along choices of the tests of inputs and answers, and what a world is to give, worked out by hand.

@@ -16,13 +16,13 @@ use Rattle.simple_scripts.specs.SimpleScripts.{is_simple}
 use Rattle.js_tree.specs.Refusals.{place}
 use Rattle.plain_heap.specs.Heap.{Heap}
 use Rattle.plain_heap.specs.Values.{Prim}
-use Rattle.js_machine.specs.Machine.Choices.{Stopped, Leaves, open_run, IsWhole, EndsWithin, EndsOrWants}
+use Rattle.js_machine.specs.Machine.Choices.{Stopped, open_run, IsWhole, EndsWithin, EndsOrWants}
 use Rattle.residual_form.specs.Form.{is_residual, is_fresh}
 use Rattle.residual_form.specs.Snapshot.{snapshot}
-use Rattle.script_text.specs.CodeLine.{code_text}
 use Rattle.script_text.specs.Printing.{script_text}
+use Rattle.js_machine.specs.Machine.Events.{Leaves}
 use Rattle.js_machine.specs.Machine.Listed.{Listed, ListedProperty, DataLine, Row, RealmRow, listing, Agree}
-use Rattle.js_machine.specs.Machine.Numbers.{global}
+use Rattle.js_machine.specs.Machine.RealmObjects.{global}
 use Rattle.js_machine.specs.Machine.Walks.{World, HostEvent, Outcome, Ended, Left, Normally, plain}
 use Rattle.js_machine.specs.Machine.Worlds.{IsClosed, IsTyped}
 use Rattle.script_reader.specs.Reads.{reads}
@@ -57,7 +57,7 @@ variable_in _ = None
 
 -- There is no row but that of the global object, and its lines are these variables: declared names that hold primitives other than the
 -- string `__proto__`.
-pub record AreVariables (s : Script) (rows : List (Row (List ℕ))) (vs : List (List ℕ × Primitive)) : Type 0 where
+pub record AreVariables (s : Script) (rows : List Row) (vs : List (List ℕ × Primitive)) : Type 0 where
   pub fixed : Bool
   pub others : List ListedProperty
   pub new : List ListedProperty
@@ -66,9 +66,9 @@ pub record AreVariables (s : Script) (rows : List (Row (List ℕ))) (vs : List (
   pub declared : All (λ (v : List ℕ × Primitive). Contains (declared_names s) v.0 × (v.1 ≡ primitive.Text (codes "__proto__") → ⊥)) vs
 
 -- a script has by itself this listing
-abbrev pub HasListing : Script → List (Row (List ℕ)) → Type 0
+abbrev pub HasListing : Script → List Row → Type 0
 HasListing r rows =
-    (w : World) → (calls : List HostEvent) × (h : Heap) × (plain r w (nodes r) ≡ Ended calls Normally h) × (listing code_text r h Normally ≡ rows)
+    (w : World) → (calls : List HostEvent) × (h : Heap) × (plain r w (nodes r) ≡ Ended calls Normally h) × (listing r.funcs h Normally ≡ rows)
 
 -- The text written is a residual of the source, under a budget of steps for the source.
 pub record IsResidualOf (n : ℕ) (source written : List ℕ) : Type 0 where
@@ -84,15 +84,15 @@ pub record IsResidualOf (n : ℕ) (source written : List ℕ) : Type 0 where
   -- In every world in which the source's run doesn't leave the profile, both end, with the same host calls, the same completion
   -- and equal listings. The residual takes no more steps than it has nodes.
   pub alike : (w : World) → IsTyped w script → (IsLeft (plain script w n) → ⊥)
-      → Agree code_text script (plain script w n) residual (plain residual w (nodes residual))
+      → Agree script.funcs (plain script w n) residual.funcs (plain residual w (nodes residual))
   -- along every list of choices the source ends or wants a choice
   pub paths : (choices : List Bool) → EndsOrWants (open_run script choices n).came_to
   -- where a closed source leaves variables alone, the residual is their `var` statement
   pub variables : IsClosed script → (w : World) (calls : List HostEvent) (h : Heap) (vs : List (List ℕ × Primitive)) → plain script w n ≡ Ended calls Normally h
-      → AreVariables script (listing code_text script h Normally) vs → HasListing (snapshot vs) (listing code_text script h Normally) → written ≡ script_text (snapshot vs)
+      → AreVariables script (listing script.funcs h Normally) vs → HasListing (snapshot vs) (listing script.funcs h Normally) → written ≡ script_text (snapshot vs)
   -- where it leaves nothing, nothing is written
   pub nothing : IsClosed script → (w : World) (calls : List HostEvent) (h : Heap) → plain script w n ≡ Ended calls Normally h
-      → listing code_text script h Normally ≡ [] → written ≡ []
+      → listing script.funcs h Normally ≡ [] → written ≡ []
 
 -- ---- sources without a residual
 
