@@ -1,2 +1,4 @@
 pub mod Hosts
 pub mod FailHosts
+pub mod Inners
+pub mod Recorders

@@ -1,4 +1,4 @@
-ghost use Rattle.std.specs.Prelude.{◌≡◌, ◌≤◌, ◌↔◌, ℕ, pos, [], None, Some, Contains};
+ghost use Rattle.std.specs.Prelude.{◌≡◌, ◌≤◌, ◌↔◌, ℕ, pos, [], None, Some, IfErr, Contains};
 ghost use Rattle.std.specs.Option.{option_map};
 ghost use Rattle.host_box.specs.Hosts.{Replies, numbers_after_call, CallHasCause, next_reply, next_count};
 
@@ -36,11 +36,19 @@ impl Host for CountHost {
 
     ghost host_faults = { λ _. 0 };
 
-    fn supply(&mut self, _value: Primitive) -> Result<(), NoMemory> {
+    /// It takes no memory.
+    fn supply(&mut self, _value: Primitive) -> Result<(), NoMemory>
+        ensures never_refused { IfErr result (λ _. ⊥) }
+        ensures same { self.new ≡ self.old }
+    {
         Ok(())
     }
 
-    fn supply_throw(&mut self, _value: Primitive) -> Result<(), NoMemory> {
+    /// It takes no memory.
+    fn supply_throw(&mut self, _value: Primitive) -> Result<(), NoMemory>
+        ensures never_refused { IfErr result (λ _. ⊥) }
+        ensures same { self.new ≡ self.old }
+    {
         Ok(())
     }
 

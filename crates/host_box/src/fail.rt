@@ -1,7 +1,7 @@
-ghost use Rattle.std.specs.Prelude.{◌≡◌, ◌≢◌, ◌+◌, ◌-◌, ◌^◌, ◌≤◌, ◌↔◌, [], Some, min, IsTrue, Contains};
+ghost use Rattle.std.specs.Prelude.{◌≡◌, ◌≢◌, ◌+◌, ◌-◌, ◌^◌, ◌≤◌, ◌↔◌, [], Some, min, IsTrue, OnOk, OnErr, Contains};
 ghost use Rattle.std.specs.Option.{option_map};
 ghost use Rattle.host_box.specs.FailHosts.{FailReplies};
-ghost use Rattle.host_box.specs.Hosts.{numbers_later, Replies, numbers_after_call, CallHasCause};
+ghost use Rattle.host_box.specs.Hosts.{given, thrown, after_answers, numbers_later, Replies, numbers_after_call, CallHasCause};
 
 use crate::{Host, ListHost, Reply};
 use js_value::{Kind, NoMemory, Primitive, Prims, Text};
@@ -56,11 +56,23 @@ impl Host for FailHost {
 
     ghost host_faults = { λ h. h.faults };
 
-    fn supply(&mut self, value: Primitive) -> Result<(), NoMemory> {
+    fn supply(&mut self, value: Primitive) -> Result<(), NoMemory>
+        ensures ok { OnOk result (Some self.new.answers ≡ after_answers (Some self.old.answers) (given value)) }
+        ensures err { OnErr result ((Some self.new.answers ≡ Some self.old.answers) × (self.new.faults ≡ self.old.faults)) }
+        ensures failing { Some (numbers_later self.new.calls self.new.fail) ≡ Some (numbers_later self.old.calls self.old.fail) }
+        ensures faults { self.old.faults ≤ self.new.faults }
+        ensures uncounted { self.new.faults ≡ self.old.faults }
+    {
         self.answers.supply(value)
     }
 
-    fn supply_throw(&mut self, value: Primitive) -> Result<(), NoMemory> {
+    fn supply_throw(&mut self, value: Primitive) -> Result<(), NoMemory>
+        ensures ok { OnOk result (Some self.new.answers ≡ after_answers (Some self.old.answers) (thrown value)) }
+        ensures err { OnErr result ((Some self.new.answers ≡ Some self.old.answers) × (self.new.faults ≡ self.old.faults)) }
+        ensures failing { Some (numbers_later self.new.calls self.new.fail) ≡ Some (numbers_later self.old.calls self.old.fail) }
+        ensures faults { self.old.faults ≤ self.new.faults }
+        ensures uncounted { self.new.faults ≡ self.old.faults }
+    {
         self.answers.supply_throw(value)
     }
 

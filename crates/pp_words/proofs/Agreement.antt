@@ -1,13 +1,12 @@
 -- What clap makes of the words asks for what the form of the words says.
 use Rattle.std.proofs.Common.{◌≡◌, ◌&&◌, ◌==◌, ℕ, Bool, true, false, List, [], ◌∷◌, ◌++◌, Option, None, Some, refl, ap, sym, ◌∙◌, subst, append_assoc, append-nil, cond, codes}
 use Rattle.std.specs.Str.{bytes_eq}
-use Rattle.std.specs.List.{list_any}
 use Rattle.std.proofs.lemmas.Bool.Decides.{Decides-eqb}
 use Rattle.clap.specs.Lexer.{name_and_value}
 use Rattle.pp_words.specs.declared.command.Item.{Item}
 use Rattle.pp_words.specs.declared.command.Command.{Command}
-use Rattle.pp_words.specs.declared.command.Command.TheVariants.{Run}
-use Rattle.pp_words.specs.Words.{Word, ◌>>=◌, with_value, with_plain, option_given, divided, steps, items_behind, item, is_named, named, eval, run, budget, asked, command}
+use Rattle.pp_words.specs.declared.command.Command.TheVariants.{Run, Check}
+use Rattle.pp_words.specs.Words.{Word, ◌>>=◌, with_value, with_plain, option_given, divided, steps, more_items, items_behind, worlds_behind, named, eval, run, check, budget, asked, command}
 use Rattle.pp_words.specs.Line.{Kind, plain, dashes, alone, with, other, kind_of, kind_of_value, leads, form}
 
 abbrev Parts : Type 0
@@ -20,10 +19,17 @@ lone = 45 ∷ []
 
 lone_item : (done : List Item) (ws r : List Word) → items_behind done (ws ++ lone ∷ r) ≡ None
 lone_item done [] r = refl
-lone_item done (w ∷ ws) r = elim (item w) as (λ o. (o >>= (λ next. cond (list_any (is_named next.name) done) None (items_behind (done ++ next ∷ []) (ws ++ lone ∷ r)))) ≡ None) [
-  | None ↦ refl
-  | Some next ↦ elim (list_any (is_named next.name) done) as (λ b. cond b None (items_behind (done ++ next ∷ []) (ws ++ lone ∷ r)) ≡ None) [ true ↦ refl | false ↦ lone_item (done ++ next ∷ []) ws r ]
-]
+lone_item done (w ∷ ws) r =
+    elim (more_items done w) as (λ o. (o >>= (λ more. items_behind more (ws ++ lone ∷ r))) ≡ None) [ None ↦ refl | Some more ↦ lone_item more ws r ]
+
+lone_world : (done : List (List Item)) (world : List Item) (ws r : List Word) → worlds_behind done world (ws ++ lone ∷ r) ≡ None
+lone_world done world [] r = refl
+lone_world done world (w ∷ ws) r =
+    elim (bytes_eq w (codes "/"))
+    as (λ b. cond b (worlds_behind (done ++ world ∷ []) [] (ws ++ lone ∷ r)) (more_items world w >>= (λ more. worlds_behind done more (ws ++ lone ∷ r))) ≡ None) [
+      | true ↦ lone_world (done ++ world ∷ []) [] ws r
+      | false ↦ elim (more_items world w) as (λ o. (o >>= (λ more. worlds_behind done more (ws ++ lone ∷ r))) ≡ None) [ None ↦ refl | Some more ↦ lone_world done more ws r ]
+    ]
 
 lone_eval : (n : ℕ) (ws r : List Word) → eval n (ws ++ lone ∷ r) ≡ None
 lone_eval n [] r = refl
@@ -32,13 +38,18 @@ lone_eval n (w ∷ ws) r = refl
 lone_run : (n : ℕ) (ws r : List Word) → run n (ws ++ lone ∷ r) ≡ None
 lone_run n ws r = ap (λ (o : Option (List Item)). o >>= (λ all. Some (Run n all))) (lone_item [] ws r)
 
-neither : (a b : Bool) (x y : Option Command) → x ≡ None → y ≡ None → cond a x (cond b y None) ≡ None
-neither true b x y e f = e
-neither false true x y e f = f
-neither false false x y e f = refl
+lone_check : (n : ℕ) (ws r : List Word) → check n (ws ++ lone ∷ r) ≡ None
+lone_check n ws r = ap (λ (o : Option (List (List Item))). o >>= (λ all. Some (Check n all))) (lone_world [] [] ws r)
+
+none_of : (a b c : Bool) (x y z : Option Command) → x ≡ None → y ≡ None → z ≡ None → cond a x (cond b y (cond c z None)) ≡ None
+none_of true b c x y z e f g = e
+none_of false true c x y z e f g = f
+none_of false false true x y z e f g = g
+none_of false false false x y z e f g = refl
 
 lone_after : (n : ℕ) (name : Word) (ws r : List Word) → named n (name ∷ (ws ++ lone ∷ r)) ≡ None
-lone_after n name ws r = neither (bytes_eq name (codes "eval")) (bytes_eq name (codes "run")) _ _ (lone_eval n ws r) (lone_run n ws r)
+lone_after n name ws r =
+    none_of (bytes_eq name (codes "eval")) (bytes_eq name (codes "run")) (bytes_eq name (codes "check")) _ _ _ (lone_eval n ws r) (lone_run n ws r) (lone_check n ws r)
 
 lone_named : (n : ℕ) (ws r : List Word) → named n (ws ++ lone ∷ r) ≡ None
 lone_named n [] r = refl

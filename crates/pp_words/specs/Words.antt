@@ -10,7 +10,7 @@ use Rattle.js_value.specs.Texts.{units_of}
 use Rattle.js_value.specs.declared.primitive.Primitive.{Primitive}
 use Rattle.js_value.specs.declared.primitive.Primitive.TheVariants.{Boolean, Number, Text}
 use Rattle.pp_words.specs.declared.command.Command.{Command}
-use Rattle.pp_words.specs.declared.command.Command.TheVariants.{Eval, Run}
+use Rattle.pp_words.specs.declared.command.Command.TheVariants.{Eval, Run, Check}
 use Rattle.pp_words.specs.declared.command.Item.{Item}
 
 -- the bytes of a word
@@ -115,15 +115,33 @@ item word = item_of (name_and_value word)
 abbrev pub is_named : List ℕ → Item → Bool
 is_named name item = nat_le 1 (length name) && pointwise nat_eq item.name name
 
--- the items of the words behind those that are done; an input whose name was given before is refused
+-- the items of one word more; an input whose name was given before is refused
+abbrev pub more_items : List Item → Word → Option (List Item)
+more_items done word = do
+  next ← item word
+  if list_any (is_named next.name) done then None else Some (done ++ next ∷ [])
+
+-- the items of the words behind those that are done
 abbrev pub items_behind : List Item → List Word → Option (List Item)
 items_behind done [] = Some done
 items_behind done (word ∷ rest) = do
-  next ← item word
-  if list_any (is_named next.name) done then None else items_behind (done ++ next ∷ []) rest
+  more ← more_items done word
+  items_behind more rest
 
 abbrev pub items : List Word → Option (List Item)
 items words = items_behind [] words
+
+-- ---- worlds
+
+-- The worlds of the words behind those that are done and the items of the one that was begun. A word `/` ends a world and begins the next.
+abbrev pub worlds_behind : List (List Item) → List Item → List Word → Option (List (List Item))
+worlds_behind done world [] = Some (done ++ world ∷ [])
+worlds_behind done world (word ∷ rest) =
+    if bytes_eq word (codes "/") then worlds_behind (done ++ world ∷ []) [] rest
+    else (more_items world word >>= (λ more. worlds_behind done more rest))
+
+abbrev pub worlds : List Word → Option (List (List Item))
+worlds words = worlds_behind [] [] words
 
 -- ---- commands
 
@@ -134,11 +152,15 @@ eval n (word ∷ rest) = None
 abbrev pub run : ℕ → List Word → Option Command
 run n words = items words >>= (λ all. Some (Run n all))
 
+abbrev pub check : ℕ → List Word → Option Command
+check n words = worlds words >>= (λ all. Some (Check n all))
+
 abbrev pub named : ℕ → List Word → Option Command
 named n [] = None
 named n (name ∷ words) =
     if bytes_eq name (codes "eval") then eval n words
-    else (if bytes_eq name (codes "run") then run n words else None)
+    else (if bytes_eq name (codes "run") then run n words
+    else (if bytes_eq name (codes "check") then check n words else None))
 
 -- what the values of the option and the plain words ask for
 abbrev pub asked : List Word × List Word → Option Command

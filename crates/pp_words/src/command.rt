@@ -13,6 +13,9 @@ pub struct Item {
 /// A list of items.
 pub type Items = Seq<Item>;
 
+/// The items of each of some worlds.
+pub type Worlds = Seq<Items>;
+
 /// What the program is to do, with a budget of steps.
 #[derive(Debug, Drop)]
 pub enum Command {
@@ -20,6 +23,8 @@ pub enum Command {
     Eval(u64),
     /// Run a script plainly in the world of the items.
     Run(u64, Items),
+    /// Compare two scripts in each of the worlds.
+    Check(u64, Worlds),
 }
 
 /// Why words give no command.

@@ -4,7 +4,7 @@ ghost use Rattle.pp_words.specs.Line.{form};
 ghost use Rattle.pp_words.specs.declared.command.WordsRefused.TheVariants.{Usage};
 
 use crate::item::{all_digits, capped};
-use crate::items::read_items;
+use crate::items::{read_items, read_worlds};
 use crate::line::{parse, values};
 use crate::{Command, WordsRefused};
 use clap::error::ErrorKind;
@@ -42,6 +42,9 @@ fn named(alloc: Global, steps: u64, words: &[&str]) -> Result<Command, WordsRefu
     match words {
         [name] if *name == "eval" => Ok(Command::Eval(steps)),
         [name, items @ ..] if *name == "run" => Ok(Command::Run(steps, read_items(alloc, items)?)),
+        [name, items @ ..] if *name == "check" => {
+            Ok(Command::Check(steps, read_worlds(alloc, items)?))
+        }
         _ => Err(WordsRefused::Usage),
     }
 }

@@ -2,8 +2,6 @@
 #![tactic(auto)]
 
 #[cfg(test)]
-mod outside;
-#[cfg(test)]
 mod program;
 #[cfg(test)]
 mod reading;
