@@ -1,2 +1,6 @@
 pub mod Meanings
 pub mod Sharing
+pub mod Growing
+pub mod Made
+pub mod Searching
+pub mod Chains

@@ -24,6 +24,14 @@ with_truth_else test b σ c h = ap (λ e. cond e b (σ c)) (ne_eqb c test h)
 with_truth_behind : (least test : ℕ) (b : Bool) (σ : Assignment) → test ≤ least → AgreeBehind least (with_truth test b σ) σ
 with_truth_behind least test b σ h c later = with_truth_else test b σ c (λ e. omega (arith, e, later))
 
+-- a diagram that tests nothing before a condition tests nothing before an earlier one
+tests_later : (least more : ℕ) → least ≤ more → (form : NodeForm) → TestsFrom more form → TestsFrom least form
+tests_later least more le (Leaf n) h = tt
+tests_later least more le (Node test high low) h = omega (arith, h, le)
+
+pub starts_later : (nodes : Nodes) (least more : ℕ) (d : Diagram) → least ≤ more → StartsAt nodes more d → StartsAt nodes least d
+starts_later nodes least more d le s = record { top = λ form at. tests_later least more le form (s.top form at) }
+
 -- ---- a diagram whose top tests conditions behind one depends on those alone
 
 module _ (nodes : Nodes) (t : IsTable nodes) where
@@ -33,13 +41,6 @@ module _ (nodes : Nodes) (t : IsTable nodes) where
   pub means_top : (σ : Assignment) (d : Diagram) (form : NodeForm) → slice_get nodes d.0 ≡ Some form → meaning nodes σ d ≡ form_meaning nodes σ form
   means_top σ d form at = meaning_of_top nodes σ d form at (t.stands d.0 form at)
 
-  starts_later : (least more : ℕ) (d : Diagram) → least ≤ more → StartsAt nodes more d → StartsAt nodes least d
-  starts_later least more d le s = record { top = λ form at. by form (s.top form at) }
-    where
-      by : (form : NodeForm) → TestsFrom more form → TestsFrom least form
-      by (Leaf n) h = tt
-      by (Node test high low) h = omega (arith, h)
-
   abbrev BelowDepends : ℕ → Type 0
   BelowDepends bound = (least : ℕ) (d : Diagram) → d.0 < bound → d.0 < length nodes → StartsAt nodes (suc least) d → (σ τ : Assignment) → AgreeBehind least σ τ → meaning nodes σ d ≡ meaning nodes τ d
 
@@ -48,8 +49,8 @@ module _ (nodes : Nodes) (t : IsTable nodes) where
   form_depends bound below least number small inside (Leaf n) tests stands σ τ agree = refl
   form_depends bound below least number small inside (Node test high low) tests stands σ τ agree =
       ap (λ b. cond b (meaning nodes σ high) (meaning nodes σ low)) (agree test.0 (omega (arith, tests)))
-      ∙ ap (λ n. cond (τ test.0) n (meaning nodes σ low)) (below least high (omega (arith, stands.high_before)) (omega (arith, stands.high_before)) (starts_later (suc least) (suc test.0) high (omega (arith, tests)) stands.high_behind) σ τ agree)
-      ∙ ap (λ n. cond (τ test.0) (meaning nodes τ high) n) (below least low (omega (arith, stands.low_before)) (omega (arith, stands.low_before)) (starts_later (suc least) (suc test.0) low (omega (arith, tests)) stands.low_behind) σ τ agree)
+      ∙ ap (λ n. cond (τ test.0) n (meaning nodes σ low)) (below least high (omega (arith, stands.high_before)) (omega (arith, stands.high_before)) (starts_later nodes (suc least) (suc test.0) high (omega (arith, tests)) stands.high_behind) σ τ agree)
+      ∙ ap (λ n. cond (τ test.0) (meaning nodes τ high) n) (below least low (omega (arith, stands.low_before)) (omega (arith, stands.low_before)) (starts_later nodes (suc least) (suc test.0) low (omega (arith, tests)) stands.low_behind) σ τ agree)
 
   depends_below : (bound : ℕ) → BelowDepends bound
   depends_below zero least d h inside s σ τ agree = absurd (omega arith)

@@ -1,2 +1,4 @@
+pub mod Cases
 pub mod Meaning
+pub mod Search
 pub mod Table

@@ -1,5 +1,6 @@
 -- What a diagram means: a number for each assignment of truth to the conditions.
-use Rattle.std.specs.Prelude.{◌≡◌, ℕ, ◌<◌, Bool, false, if◌then◌else◌, ◌==◌, List, [], ◌∷◌, ◌++◌, length, get_or}
+use Rattle.std.specs.Prelude.{◌≡◌, ℕ, ◌<◌, Bool, not, if◌then◌else◌, ◌==◌, List, [], ◌∷◌, ◌++◌, length, get_or}
+use Rattle.diagrams.specs.declared.node.CondNo.{CondNo}
 use Rattle.diagrams.specs.declared.node.Diagram.{Diagram}
 use Rattle.diagrams.specs.declared.node.NodeForm.{NodeForm}
 use Rattle.diagrams.specs.declared.node.NodeForm.TheVariants.{Leaf, Node}
@@ -30,6 +31,30 @@ meaning nodes σ d = get_or (values_behind σ [] nodes) d.0 0
 abbrev pub form_meaning : Nodes → Assignment → NodeForm → ℕ
 form_meaning nodes σ (Leaf n) = n
 form_meaning nodes σ (Node test high low) = if σ test.0 then meaning nodes σ high else meaning nodes σ low
+
+-- what a test means, whose parts are these
+abbrev pub tested : CondNo → Diagram → Diagram → Nodes → Assignment → ℕ
+tested test high low nodes σ = form_meaning nodes σ (Node test high low)
+
+-- a guard holds where it means another number than 0
+abbrev pub holds : ℕ → Bool
+holds n = not (n == 0)
+
+-- one diagram where a guard holds, and another where it doesn't
+abbrev pub selected : Diagram → Diagram → Diagram → Nodes → Assignment → ℕ
+selected g a b nodes σ = if holds (meaning nodes σ g) then meaning nodes σ a else meaning nodes σ b
+
+-- a guard where another holds too
+abbrev pub both : Diagram → Diagram → Nodes → Assignment → ℕ
+both g h nodes σ = if holds (meaning nodes σ g) then meaning nodes σ h else 0
+
+-- where a guard doesn't hold
+abbrev pub negated : Diagram → Nodes → Assignment → ℕ
+negated g nodes σ = if holds (meaning nodes σ g) then 0 else 1
+
+-- where a diagram means this number
+abbrev pub reads_as : Diagram → ℕ → Nodes → Assignment → ℕ
+reads_as d n nodes σ = if meaning nodes σ d == n then 1 else 0
 
 -- a table has only grown
 pub record Extends (old new : Nodes) : Type 0 where

@@ -1,8 +1,14 @@
 //! Shared decision diagrams over conditions that are numbered in order, with numbers as leaves.
 #![tactic(auto)]
 
+mod case;
 mod memory;
 mod node;
+mod operations;
+mod search;
+mod table;
 
+pub use case::Case;
 pub use memory::NoMemory;
 pub use node::{CondNo, Diagram, NodeForm};
+pub use table::Diagrams;
