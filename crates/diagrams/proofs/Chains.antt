@@ -1,5 +1,5 @@
 -- The list of divided cases that wait for their parts.
-use Rattle.std.proofs.Common.{◌≡◌, ℕ, ◌+◌, ◌<◌, ◌≤◌, zero, suc, List, [], ◌∷◌, refl, sym, ap, subst, ◌∙◌, arith}
+use Rattle.std.proofs.Common.{◌≡◌, ℕ, ◌+◌, ◌<◌, ◌≤◌, zero, suc, List, [], ◌∷◌, refl, subst, arith}
 use Rattle.diagrams.specs.declared.node.Diagram.{Diagram}
 use Rattle.diagrams.specs.declared.case.Case.{Case}
 use Rattle.diagrams.specs.declared.case.Split.{Split}
@@ -7,7 +7,7 @@ use Rattle.diagrams.specs.declared.case.Waiting.{Waiting}
 use Rattle.diagrams.specs.declared.case.Waiting.TheVariants.{Yes, No}
 use Rattle.diagrams.specs.Meaning.{Nodes, Extends}
 use Rattle.diagrams.specs.Cases.{Answers}
-use Rattle.diagrams.specs.Search.{IsSplit, WaitsFor, Chain, Pending, Descends, Resumes, weight, cost, load, load_of, whole_of}
+use Rattle.diagrams.specs.Search.{IsSplit, WaitsFor, Chain, Pending, Descends, Resumes, weight, cost, whole_of}
 use Rattle.diagrams.proofs.Growing.{answers_still}
 use Rattle.diagrams.proofs.Searching.{split_still}
 

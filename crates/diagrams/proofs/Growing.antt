@@ -1,7 +1,7 @@
 -- A table with one more node, and answers with one more.
-use Rattle.std.proofs.Common.{◌≡◌, ◌≢◌, ℕ, ◌+◌, ◌<◌, ◌≤◌, zero, suc, Bool, true, false, cond, ◌||◌, List, [], ◌∷◌, ◌++◌, length, Option, Some, None, slice_get, ◌⊎◌, inl, inr, ⊎_elim, refl, sym, ap, subst, ◌∙◌, arith}
-use Rattle.std.proofs.lemmas.Bool.{cases_Bool, cases_lt, true≢false}
-use Rattle.std.proofs.lemmas.Option.{slice_get_within, none-some, same_Some}
+use Rattle.std.proofs.Common.{◌≡◌, ℕ, ◌<◌, ◌≤◌, zero, suc, Bool, true, false, cond, List, [], ◌∷◌, ◌++◌, length, Option, Some, slice_get, ◌⊎◌, inl, inr, ⊎_elim, refl, sym, ap, subst, ◌∙◌, arith}
+use Rattle.std.proofs.lemmas.Bool.{cases_Bool, true≢false}
+use Rattle.std.proofs.lemmas.Option.{none-some, same_Some}
 use Rattle.std.proofs.lemmas.Map.Keys.{any_passes_from_place}
 use Rattle.std.proofs.lemmas.List.{append_assoc, length-append, append-nil}
 use Rattle.std.specs.List.{list_any}
@@ -9,12 +9,11 @@ use Rattle.std.specs.Map.{lookup}
 use Rattle.indexmap.specs.IndexSet.{insert_key}
 use Rattle.indexmap.specs.IndexMap.{insert_entry}
 use Rattle.diagrams.specs.declared.case.Case.{Case}
-use Rattle.diagrams.specs.declared.node.CondNo.{CondNo}
 use Rattle.diagrams.specs.declared.node.Diagram.{Diagram}
 use Rattle.diagrams.specs.declared.node.NodeForm.{NodeForm}
 use Rattle.diagrams.specs.declared.node.NodeForm.TheVariants.{Leaf, Node}
-use Rattle.diagrams.specs.Meaning.{Nodes, Assignment, meaning, Extends}
-use Rattle.diagrams.specs.Table.{TestsFrom, StartsAt, IsTest, Stands, IsTable}
+use Rattle.diagrams.specs.Meaning.{Nodes, Assignment, Extends}
+use Rattle.diagrams.specs.Table.{StartsAt, Stands, IsTable}
 use Rattle.diagrams.specs.Cases.{IsWithin, case_meaning, Answers, AreRight, IfKnown}
 use Rattle.diagrams.proofs.Meanings.{slice_get_front, stays}
 
@@ -47,7 +46,7 @@ stands_still e i (Node test high low) h s = record {
   low_behind = starts_still e (suc test.0) low (omega (arith, h, s.low_before)) s.low_behind;
 }
 
-pushed_read : {A : Type 0} (xs : List A) (y : A) (i : ℕ) (x : A) → slice_get (xs ++ y ∷ []) i ≡ Some x → ((i < length xs) × (slice_get xs i ≡ Some x)) ⊎ ((i ≡ length xs) × (x ≡ y))
+pub pushed_read : {A : Type 0} (xs : List A) (y : A) (i : ℕ) (x : A) → slice_get (xs ++ y ∷ []) i ≡ Some x → ((i < length xs) × (slice_get xs i ≡ Some x)) ⊎ ((i ≡ length xs) × (x ≡ y))
 pushed_read [] y zero x h = let e : y ≡ x = cc in inr (refl, sym e)
 pushed_read [] y (suc i) x h = absurd (none-some x h)
 pushed_read (z ∷ xs) y zero x h = inl (omega arith, h)
@@ -61,15 +60,15 @@ module _ (eq : NodeForm → NodeForm → Bool) (itself : (x : NodeForm) → eq x
   pushed_table : (nodes : Nodes) (form : NodeForm) → IsTable nodes → Stands nodes (length nodes) form → list_any (eq form) nodes ≡ false → IsTable (nodes ++ form ∷ [])
   pushed_table nodes form t s absent = record {
     stands = λ i other at. ⊎_elim
-      (λ p. stands_still e i other (omega (arith, p.0)) (t.stands i other p.1))
-      (λ p. let P : NodeForm → Type 0 = λ f. Stands (nodes ++ form ∷ []) i f in
-          let Q : ℕ → Type 0 = λ n. Stands (nodes ++ form ∷ []) n form in
-          subst P (sym p.1) (subst Q (sym p.0) (stands_still e (length nodes) form (omega arith) s)))
-      (pushed_read nodes form i other at);
+        (λ p. stands_still e i other (omega (arith, p.0)) (t.stands i other p.1))
+        (λ p. let P : NodeForm → Type 0 = λ f. Stands (nodes ++ form ∷ []) i f in
+        let Q : ℕ → Type 0 = λ n. Stands (nodes ++ form ∷ []) n form in
+        subst P (sym p.1) (subst Q (sym p.0) (stands_still e (length nodes) form (omega arith) s)))
+        (pushed_read nodes form i other at);
     once = λ i j other at there. ⊎_elim
-      (λ p. ⊎_elim (λ q. t.once i j other p.1 q.1) (λ q. absurd (not_there nodes form absent i (p.1 ∙ ap (λ f. Some f) q.1))) (pushed_read nodes form j other there))
-      (λ p. ⊎_elim (λ q. absurd (not_there nodes form absent j (q.1 ∙ ap (λ f. Some f) p.1))) (λ q. p.0 ∙ sym q.0) (pushed_read nodes form j other there))
-      (pushed_read nodes form i other at);
+        (λ p. ⊎_elim (λ q. t.once i j other p.1 q.1) (λ q. absurd (not_there nodes form absent i (p.1 ∙ ap (λ f. Some f) q.1))) (pushed_read nodes form j other there))
+        (λ p. ⊎_elim (λ q. absurd (not_there nodes form absent j (q.1 ∙ ap (λ f. Some f) p.1))) (λ q. p.0 ∙ sym q.0) (pushed_read nodes form j other there))
+        (pushed_read nodes form i other at);
   }
     where
       e : Extends nodes (nodes ++ form ∷ [])

@@ -4,3 +4,5 @@ pub mod Growing
 pub mod Made
 pub mod Searching
 pub mod Chains
+pub mod Walking
+pub mod Guarding

@@ -1,5 +1,5 @@
 -- What diagrams that are made mean in each later table.
-use Rattle.std.proofs.Common.{◌≡◌, ◌↔◌, ℕ, eqb, IsTrue, ◌+◌, ◌<◌, ◌≤◌, suc, Bool, true, false, not, cond, List, [], ◌∷◌, ◌++◌, length, Some, slice_get, refl, sym, ap, subst, ◌∙◌, arith}
+use Rattle.std.proofs.Common.{◌≡◌, ◌↔◌, ℕ, eqb, IsTrue, ◌<◌, Bool, true, false, not, cond, length, Some, slice_get, refl, sym, ap, ◌∙◌, arith}
 use Rattle.std.proofs.lemmas.Bool.{eqb-true, eq-eqb, false≢true}
 use Rattle.std.proofs.lemmas.Option.{slice_get_within}
 use Rattle.diagrams.specs.declared.case.Case.{Case}
@@ -8,8 +8,8 @@ use Rattle.diagrams.specs.declared.node.Diagram.{Diagram}
 use Rattle.diagrams.specs.declared.node.NodeForm.{NodeForm}
 use Rattle.diagrams.specs.declared.node.NodeForm.TheVariants.{Leaf, Node}
 use Rattle.diagrams.specs.Meaning.{Nodes, Assignment, meaning, form_meaning, tested, selected, reads_as, Extends, Means, DependsBehind}
-use Rattle.diagrams.specs.Table.{StartsAt, IsTest, Stands, IsTable}
-use Rattle.diagrams.specs.Cases.{IsWithin, case_meaning, Answers}
+use Rattle.diagrams.specs.Table.{IsTest, Stands, IsTable}
+use Rattle.diagrams.specs.Cases.{case_meaning, Answers}
 use Rattle.diagrams.proofs.Meanings.{stays}
 use Rattle.diagrams.proofs.Sharing.{means_top, starts_behind, constant_top, equal_meanings}
 use Rattle.diagrams.proofs.Growing.{case_stays, then_extends}
@@ -57,20 +57,23 @@ may_stand nodes test high low t in_high in_low h l apart = record {
 
 -- a top that is a leaf or isn't tells whether a diagram is one number everywhere
 pub leaf_everywhere : (nodes : Nodes) (d : Diagram) (m n : ℕ) (b : Bool) → IsTable nodes → slice_get nodes d.0 ≡ Some (Leaf m) → b ≡ eqb m n → IsTrue b ↔ ((σ : Assignment) → meaning nodes σ d ≡ n)
-leaf_everywhere nodes d m n b t at is =
-    ((λ holds σ. means_top nodes t σ d (Leaf m) at ∙ eqb-true m n (sym is ∙ holds)),
-     (λ same. is ∙ eq-eqb m n (sym (means_top nodes t (λ c. false) d (Leaf m) at) ∙ same (λ c. false))))
+leaf_everywhere nodes d m n b t at is = (
+  (λ holds σ. means_top nodes t σ d (Leaf m) at ∙ eqb-true m n (sym is ∙ holds)),
+  (λ same. is ∙ eq-eqb m n (sym (means_top nodes t (λ c. false) d (Leaf m) at) ∙ same (λ c. false))),
+)
 
 pub test_nowhere : (nodes : Nodes) (d : Diagram) (test : CondNo) (high low : Diagram) (n : ℕ) → IsTable nodes → slice_get nodes d.0 ≡ Some (Node test high low) → IsTrue false ↔ ((σ : Assignment) → meaning nodes σ d ≡ n)
-test_nowhere nodes d test high low n t at =
-    ((λ holds. absurd (false≢true holds)),
-     (λ same. let e : Node test high low ≡ Leaf n = constant_top nodes t n d (Node test high low) at (slice_get_within nodes d.0 (Node test high low) at) same in cc))
+test_nowhere nodes d test high low n t at = (
+  (λ holds. absurd (false≢true holds)),
+  (λ same. let e : Node test high low ≡ Leaf n = constant_top nodes t n d (Node test high low) at (slice_get_within nodes d.0 (Node test high low) at) same in cc),
+)
 
 -- equal meanings are equal numbers
 pub same_exactly : (nodes : Nodes) (d e : Diagram) (b : Bool) → IsTable nodes → d.0 < length nodes → e.0 < length nodes → b ≡ eqb d.0 e.0 → IsTrue b ↔ ((σ : Assignment) → meaning nodes σ d ≡ meaning nodes σ e)
-same_exactly nodes d e b t in_d in_e is =
-    ((λ holds σ. ap (λ n. meaning nodes σ (record { 0 = n })) (eqb-true d.0 e.0 (sym is ∙ holds))),
-     (λ same. is ∙ eq-eqb d.0 e.0 (equal_meanings nodes t d e in_d in_e same)))
+same_exactly nodes d e b t in_d in_e is = (
+  (λ holds σ. ap (λ n. meaning nodes σ (record { 0 = n })) (eqb-true d.0 e.0 (sym is ∙ holds))),
+  (λ same. is ∙ eq-eqb d.0 e.0 (equal_meanings nodes t d e in_d in_e same)),
+)
 
 other_way : {A : Type 0} (b : Bool) (x y : A) → cond b x y ≡ cond (not b) y x
 other_way true x y = refl

@@ -1,18 +1,18 @@
 -- Parts of diagrams and of cases.
-use Rattle.std.proofs.Common.{◌≡◌, ◌≢◌, ℕ, ◌+◌, ◌<◌, ◌≤◌, zero, suc, ◌⊎◌, inl, inr, ⊎_elim, Bool, true, false, cond, eqb, List, [], ◌∷◌, length, Some, slice_get, refl, sym, ap, subst, ◌∙◌, arith}
+use Rattle.std.proofs.Common.{◌≡◌, ℕ, ◌+◌, ◌<◌, ◌≤◌, suc, ◌⊎◌, inl, inr, ⊎_elim, Bool, true, false, cond, eqb, [], length, Some, slice_get, refl, sym, ap, subst, ◌∙◌, arith}
 use Rattle.diagrams.specs.declared.node.CondNo.{CondNo}
 use Rattle.diagrams.specs.declared.node.Diagram.{Diagram}
 use Rattle.diagrams.specs.declared.node.NodeForm.{NodeForm}
 use Rattle.diagrams.specs.declared.node.NodeForm.TheVariants.{Leaf, Node}
 use Rattle.diagrams.specs.declared.case.Case.{Case}
 use Rattle.diagrams.specs.declared.case.Split.{Split}
-use Rattle.diagrams.specs.Meaning.{Nodes, Assignment, meaning, AgreeBehind, DependsBehind, Extends, Means, tested}
-use Rattle.diagrams.specs.Table.{TestsFrom, StartsAt, IsTest, Stands, IsTable}
+use Rattle.diagrams.specs.Meaning.{Nodes, Assignment, meaning, DependsBehind, Extends, Means, tested}
+use Rattle.diagrams.specs.Table.{TestsFrom, StartsAt, IsTest, IsTable}
 use Rattle.diagrams.specs.Cases.{IsWithin, Answers, case_meaning}
 use Rattle.diagrams.specs.Search.{HasTest, Earlier, IsPart, IsPartOfCase, IsSplit, IsTested, weight}
 use Rattle.std.proofs.lemmas.List.{append-nil}
-use Rattle.diagrams.proofs.Sharing.{depends_behind, means_top, starts_later}
-use Rattle.diagrams.proofs.Growing.{case_stays, within_still, longer}
+use Rattle.diagrams.proofs.Sharing.{depends_behind, means_top}
+use Rattle.diagrams.proofs.Growing.{case_stays, within_still}
 use Rattle.diagrams.proofs.Meanings.{stays}
 
 -- ---- parts of diagrams

@@ -65,14 +65,14 @@ module _ (nodes : Nodes) (t : IsTable nodes) where
 
   -- ---- the parts of a test, read where its condition is true or false
 
-  high_from : (σ : Assignment) (d : Diagram) (test : CondNo) (high low : Diagram) → slice_get nodes d.0 ≡ Some (Node test high low) → IsTest nodes d.0 test high low → d.0 < length nodes
+  pub high_from : (σ : Assignment) (d : Diagram) (test : CondNo) (high low : Diagram) → slice_get nodes d.0 ≡ Some (Node test high low) → IsTest nodes d.0 test high low → d.0 < length nodes
       → meaning nodes (with_truth test.0 true σ) d ≡ meaning nodes σ high
   high_from σ d test high low at h inside =
       means_top (with_truth test.0 true σ) d (Node test high low) at
       ∙ ap (λ b. cond b (meaning nodes (with_truth test.0 true σ) high) (meaning nodes (with_truth test.0 true σ) low)) (with_truth_there test.0 true σ)
       ∙ (depends_behind test.0 high (omega (arith, h.high_before)) h.high_behind).same (with_truth test.0 true σ) σ (with_truth_behind test.0 test.0 true σ (omega arith))
 
-  low_from : (σ : Assignment) (d : Diagram) (test : CondNo) (high low : Diagram) → slice_get nodes d.0 ≡ Some (Node test high low) → IsTest nodes d.0 test high low → d.0 < length nodes
+  pub low_from : (σ : Assignment) (d : Diagram) (test : CondNo) (high low : Diagram) → slice_get nodes d.0 ≡ Some (Node test high low) → IsTest nodes d.0 test high low → d.0 < length nodes
       → meaning nodes (with_truth test.0 false σ) d ≡ meaning nodes σ low
   low_from σ d test high low at h inside =
       means_top (with_truth test.0 false σ) d (Node test high low) at
@@ -132,9 +132,9 @@ module _ (nodes : Nodes) (t : IsTable nodes) where
         → IsTest nodes d.0 (record { 0 = test }) high low → IsTest nodes e.0 (record { 0 = test }) up down → d.0 ≡ e.0
     same_tests test high low up down at there h g =
         let highs : high.0 ≡ up.0 = below high up (omega (arith, h.high_before)) (omega (arith, g.high_before)) (omega (arith, h.high_before)) (omega (arith, g.high_before))
-            (λ σ. sym (high_from σ d (record { 0 = test }) high low at h in_d) ∙ same (with_truth test true σ) ∙ high_from σ e (record { 0 = test }) up down there g in_e) in
+        (λ σ. sym (high_from σ d (record { 0 = test }) high low at h in_d) ∙ same (with_truth test true σ) ∙ high_from σ e (record { 0 = test }) up down there g in_e) in
         let lows : low.0 ≡ down.0 = below low down (omega (arith, h.low_before)) (omega (arith, g.low_before)) (omega (arith, h.low_before)) (omega (arith, g.low_before))
-            (λ σ. sym (low_from σ d (record { 0 = test }) high low at h in_d) ∙ same (with_truth test false σ) ∙ low_from σ e (record { 0 = test }) up down there g in_e) in
+        (λ σ. sym (low_from σ d (record { 0 = test }) high low at h in_d) ∙ same (with_truth test false σ) ∙ low_from σ e (record { 0 = test }) up down there g in_e) in
         one_form d e (Node (record { 0 = test }) high low) at (there ∙ (λ j. Some (Node (record { 0 = test }) (record { 0 = sym highs j }) (record { 0 = sym lows j }))))
 
     same_diagrams : (form other : NodeForm) → slice_get nodes d.0 ≡ Some form → slice_get nodes e.0 ≡ Some other → Stands nodes d.0 form → Stands nodes e.0 other → d.0 ≡ e.0

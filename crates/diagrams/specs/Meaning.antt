@@ -1,5 +1,5 @@
 -- What a diagram means: a number for each assignment of truth to the conditions.
-use Rattle.std.specs.Prelude.{◌≡◌, ℕ, ◌<◌, Bool, not, if◌then◌else◌, ◌==◌, List, [], ◌∷◌, ◌++◌, length, get_or}
+use Rattle.std.specs.Prelude.{◌≡◌, ℕ, ◌<◌, Bool, false, not, if◌then◌else◌, ◌==◌, List, [], ◌∷◌, ◌++◌, length, get_or}
 use Rattle.diagrams.specs.declared.node.CondNo.{CondNo}
 use Rattle.diagrams.specs.declared.node.Diagram.{Diagram}
 use Rattle.diagrams.specs.declared.node.NodeForm.{NodeForm}
@@ -12,6 +12,10 @@ Nodes = List NodeForm
 -- the truth of each condition
 abbrev pub Assignment : Type 0
 Assignment = ℕ → Bool
+
+-- the truth of the first conditions is given; the others are false
+abbrev pub chosen_by : List Bool → Assignment
+chosen_by truths c = get_or truths c false
 
 -- what a node means where the nodes before it mean these numbers
 abbrev pub node_value : Assignment → List ℕ → NodeForm → ℕ

@@ -1,9 +1,8 @@
 -- How answers to cases are found by their parts.
-use Rattle.std.specs.Prelude.{◌≡◌, ℕ, ◌+◌, ◌*◌, ◌<◌, ◌≤◌, zero, suc, ◌⊎◌, Bool, true, false, if◌then◌else◌, List, [], ◌∷◌, Some, length, slice_get}
+use Rattle.std.specs.Prelude.{◌≡◌, ℕ, ◌+◌, ◌<◌, ◌≤◌, zero, suc, ◌⊎◌, Bool, true, false, List, [], ◌∷◌, Some, length, slice_get}
 use Rattle.diagrams.specs.declared.node.CondNo.{CondNo}
 use Rattle.diagrams.specs.declared.node.Diagram.{Diagram}
-use Rattle.diagrams.specs.declared.node.NodeForm.{NodeForm}
-use Rattle.diagrams.specs.declared.node.NodeForm.TheVariants.{Leaf, Node}
+use Rattle.diagrams.specs.declared.node.NodeForm.TheVariants.{Node}
 use Rattle.diagrams.specs.declared.case.Case.{Case}
 use Rattle.diagrams.specs.declared.case.Split.{Split}
 use Rattle.diagrams.specs.declared.case.Known.{Known}

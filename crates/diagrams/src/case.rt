@@ -17,7 +17,11 @@ impl Case {
     pub fn where_it_reads(self, n: usize) -> Diagram
         ensures { result ≡ (if n == self.leaf then self.same else self.other) }
     {
-        if n == self.leaf { self.same } else { self.other }
+        if n == self.leaf {
+            self.same
+        } else {
+            self.other
+        }
     }
 }
 

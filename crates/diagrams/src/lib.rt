@@ -2,6 +2,9 @@
 #![tactic(auto)]
 
 mod case;
+mod chosen;
+mod guarded;
+mod leaves;
 mod memory;
 mod node;
 mod operations;
@@ -9,6 +12,8 @@ mod search;
 mod table;
 
 pub use case::Case;
+pub use chosen::Chosen;
+pub use guarded::GuardedLeaves;
 pub use memory::NoMemory;
 pub use node::{CondNo, Diagram, NodeForm};
 pub use table::Diagrams;

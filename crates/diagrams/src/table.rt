@@ -1,11 +1,11 @@
 //! The nodes that diagrams share, and the answers that were found.
 
 ghost use Rattle.std.specs.Prelude.{◌≡◌, ◌<◌, ◌↔◌, ℕ, [], Some, length, slice_get, IfOk, IsTrue};
-ghost use Rattle.diagrams.specs.Meaning.{Assignment, DependsBehind, Extends, Means, form_meaning, meaning, tested};
+ghost use Rattle.diagrams.specs.Meaning.{Assignment, DependsBehind, chosen_by, Extends, Means, form_meaning, meaning, tested};
 ghost use Rattle.diagrams.specs.Table.{IsTable, Stands};
 ghost use Rattle.diagrams.specs.Cases.{Answers, IfKnown};
 
-use crate::{Case, CondNo, Diagram, NoMemory, NodeForm};
+use crate::{Case, Chosen, CondNo, Diagram, NoMemory, NodeForm};
 use indexmap::{IndexMap, IndexSet};
 use std::alloc::Global;
 use std::marker::Model;
@@ -41,8 +41,10 @@ impl Diagrams {
         }
     }
 
-    /// What the nodes take memory from.
-    pub(crate) fn allocator(&self) -> Global {
+    /// What the nodes, which are a table, take memory from.
+    pub(crate) fn allocator(&self) -> Global
+        ensures { IsTable self.now }
+    {
         *self.nodes.allocator()
     }
 
@@ -93,6 +95,20 @@ impl Diagrams {
         }
         let _nodes = &self.nodes;
         self.with_top(NodeForm::Node { test, yes, no })
+    }
+
+    /// What a diagram is where conditions have this truth.
+    pub fn at(&self, d: Diagram, chosen: &Chosen) -> usize
+        requires { d.0 < length self.now }
+        ensures { result ≡ meaning self.now (chosen_by chosen.now) d }
+    {
+        let mut here = d;
+        loop {
+            match self.part(here) {
+                NodeForm::Leaf(n) => return n,
+                NodeForm::Node { test, yes, no } => here = chosen.choose(test, yes, no),
+            }
+        }
     }
 
     /// Whether a diagram is this number everywhere.

@@ -1,4 +1,4 @@
-use Rattle.std.proofs.Common.{◌≡◌, ◌+◌, ◌≤◌, ◌∷◌, ap, subst, arith}
+use Rattle.std.proofs.Common.{◌≡◌, ◌∷◌, ap, subst, arith}
 use Rattle.diagrams.specs.declared.case.Waiting.TheVariants.{Yes}
 use Rattle.diagrams.specs.Search.{Descends, load, cost, weight}
 use Rattle.diagrams.proofs.Chains.{deeper, split_cost}

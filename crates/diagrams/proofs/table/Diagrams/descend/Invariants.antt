@@ -1,4 +1,4 @@
-use Rattle.std.proofs.Common.{ℕ, List, ◌+◌, ◌≤◌}
+use Rattle.std.proofs.Common.{List, ◌+◌, ◌≤◌}
 use Rattle.diagrams.specs.declared.node.Diagram.{Diagram}
 use Rattle.diagrams.specs.declared.case.Waiting.{Waiting}
 use Rattle.diagrams.specs.Cases.{IsWithin}

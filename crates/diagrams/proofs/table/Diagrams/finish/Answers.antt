@@ -1,6 +1,6 @@
 use Rattle.std.proofs.Common.{subst, sym}
 use Rattle.diagrams.specs.Cases.{Answers}
-use Rattle.diagrams.proofs.Searching.{split_answer, answer_behind}
+use Rattle.diagrams.proofs.Searching.{split_answer}
 use Rattle.diagrams.proofs.table.Diagrams.finish.Goals as goal
 
 pub remember-requires : goal.remember-requires

@@ -1,4 +1,4 @@
-use Rattle.std.proofs.Common.{false, eqb, refl}
+use Rattle.std.proofs.Common.{eqb, refl}
 use Rattle.diagrams.proofs.Made.{leaf_everywhere, test_nowhere}
 use Rattle.diagrams.proofs.table.Diagrams.is_everywhere.Goals as goal
 

@@ -1,7 +1,5 @@
-use Rattle.std.proofs.Common.{Some, slice_get}
 use Rattle.std.proofs.lemmas.Result.{IfOk-weaker}
 use Rattle.diagrams.specs.declared.node.NodeForm.TheVariants.{Leaf}
-use Rattle.diagrams.specs.Meaning.{Means}
 use Rattle.diagrams.proofs.Made.{top_means}
 use Rattle.diagrams.proofs.table.Diagrams.leaf.Goals as goal
 

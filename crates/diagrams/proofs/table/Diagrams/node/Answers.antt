@@ -1,9 +1,9 @@
-use Rattle.std.proofs.Common.{◌≡◌, sym, ◌∙◌, subst, ap}
-use Rattle.std.proofs.lemmas.Bool.{eqb-true, eqb-false}
+use Rattle.std.proofs.Common.{sym, subst}
+use Rattle.std.proofs.lemmas.Bool.{eqb-false}
 use Rattle.std.proofs.lemmas.Result.{IfOk-weaker}
 use Rattle.diagrams.specs.declared.node.NodeForm.TheVariants.{Node}
 use Rattle.diagrams.specs.Table.{IsTable}
-use Rattle.diagrams.proofs.Made.{top_means, may_stand, one_part}
+use Rattle.diagrams.proofs.Made.{top_means, may_stand}
 use Rattle.diagrams.proofs.table.Diagrams.node.Goals as goal
 
 pub with_top-requires : goal.with_top-requires

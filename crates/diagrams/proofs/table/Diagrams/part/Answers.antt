@@ -1,5 +1,5 @@
-use Rattle.std.proofs.Common.{◌≡◌, ◌∙◌, Some, slice_get, refl, sym, ap, subst}
-use Rattle.diagrams.specs.Meaning.{Nodes, form_meaning, meaning}
+use Rattle.std.proofs.Common.{◌≡◌, ◌∙◌, Some, slice_get, sym, ap, subst}
+use Rattle.diagrams.specs.Meaning.{Nodes}
 use Rattle.diagrams.specs.Table.{IsTable}
 use Rattle.diagrams.proofs.Sharing.{means_top}
 use Rattle.diagrams.proofs.table.Diagrams.part.Goals as goal

@@ -1,4 +1,4 @@
-use Rattle.std.proofs.Common.{◌≡◌, false, eqb, sym, ◌∙◌, ap, rules}
+use Rattle.std.proofs.Common.{◌≡◌, false, eqb, sym}
 use Rattle.std.proofs.lemmas.Bool.{eqb-true, eqb-false, not-true, not-false}
 use Rattle.diagrams.proofs.Searching.{leaf_part, later_part, high_part, low_part}
 use Rattle.diagrams.proofs.table.Diagrams.part_where.Goals as goal

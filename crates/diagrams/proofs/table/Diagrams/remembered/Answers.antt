@@ -1,4 +1,4 @@
-use Rattle.std.proofs.Common.{refl, sym, ap, subst, rules, ◌∙◌}
+use Rattle.std.proofs.Common.{subst, rules, ◌∙◌}
 use Rattle.diagrams.specs.Cases.{IfKnown}
 use Rattle.diagrams.proofs.Growing.{right_found}
 use Rattle.diagrams.specs.contracts.case.CasePartialEq.TheImpl.{eq-value}

@@ -1,4 +1,4 @@
-use Rattle.std.proofs.Common.{◌+◌, ◌≤◌, arith}
+use Rattle.std.proofs.Common.{arith}
 use Rattle.diagrams.proofs.Sharing.{starts_later}
 use Rattle.diagrams.proofs.Searching.{first_tested, starts_own}
 use Rattle.diagrams.proofs.table.Diagrams.split.Goals as goal
