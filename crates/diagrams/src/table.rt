@@ -53,7 +53,7 @@ impl Diagrams {
         requires { d.0 < length self.now }
         ensures top { slice_get self.now d.0 ≡ Some result }
         ensures stands { Stands self.now d.0 result }
-        ensures means { (σ : Assignment) → meaning self.now σ d ≡ form_meaning self.now σ result }
+        ensures means { Means self.now d (λ later σ. form_meaning later σ result) }
         ensures table { IsTable self.now }
     {
         match self.nodes.get_index(d.0) {
