@@ -11,6 +11,8 @@ mod operations;
 mod search;
 mod table;
 
+// A crate can name `Diagrams` in a contract only if the types of its fields are exported.
+#[doc(hidden)]
 pub use case::Case;
 pub use chosen::Chosen;
 pub use guarded::GuardedLeaves;
