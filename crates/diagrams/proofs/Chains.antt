@@ -34,20 +34,9 @@ cost_split m n (suc w) h k = omega (arith, cost_grows m w (omega (arith, h)), co
 pub split_cost : (nodes : Nodes) (s : Split) → IsSplit nodes s → 3 + cost (weight s.yes) + cost (weight s.no) ≤ cost (weight s.whole)
 split_cost nodes s h = cost_split (weight s.yes) (weight s.no) (weight s.whole) h.high.less h.low.less
 
-pub some_cost : (n : ℕ) → 1 ≤ cost n
-some_cost zero = omega arith
-some_cost (suc n) = omega arith
-
-pub here : (nodes : Nodes) (waiting : List Waiting) (c : Case) (d : Diagram) → Answers nodes c d → Descends nodes waiting c waiting d
-here nodes waiting c d a root chain = record { asked = c; chain = chain; answers = a }
-
 -- a case is divided, and its first part is asked for
 pub deeper : (nodes : Nodes) (waiting new : List Waiting) (s : Split) (d : Diagram) → IsSplit nodes s → Descends nodes (Yes s ∷ waiting) s.yes new d → Descends nodes waiting s.whole new d
 deeper nodes waiting new s d h next root chain = next root ((h, refl), chain)
-
--- its second part is asked for
-pub across : (nodes : Nodes) (waiting new : List Waiting) (s : Split) (y d : Diagram) → IsSplit nodes s → Answers nodes s.yes y → Descends nodes (No s y ∷ waiting) s.no new d → Descends nodes waiting s.whole new d
-across nodes waiting new s y d h a next root chain = next root ((h, a, refl), chain)
 
 -- ---- where an answer was found
 

@@ -1,5 +1,5 @@
 -- Guards of the leaves of a diagram.
-use Rattle.std.proofs.Common.{◌≡◌, ℕ, ◌<◌, List, [], ◌∷◌, ◌++◌, map, length, Option, Some, None, slice_get, ⊎_elim, refl, sym, ap, subst, ◌∙◌}
+use Rattle.std.proofs.Common.{◌≡◌, ℕ, ◌<◌, List, [], ◌∷◌, ◌++◌, map, length, Option, Some, None, slice_get, ⊎_elim, sym, ap, subst, ◌∙◌}
 use Rattle.std.proofs.lemmas.List.{map_push}
 use Rattle.std.proofs.lemmas.Option.{slice_get-map, none-some, same_Some}
 use Rattle.std.specs.Option.{option_map}
@@ -11,9 +11,6 @@ use Rattle.diagrams.proofs.Growing.{pushed_read, longer, then_extends}
 
 pub means_still : {old new : Nodes} → Extends old new → (d : Diagram) (wanted : Nodes → Assignment → ℕ) → Means old d wanted → Means new d wanted
 means_still e d wanted m = record { within = longer e d.0 m.within; reads = λ later f σ. m.reads later (then_extends e f) σ }
-
-pub no_guards : (nodes : Nodes) (d : Diagram) → AreGuards nodes d [] []
-no_guards nodes d = record { each = refl; guards = λ i n g at. absurd (none-some (n, g) at) }
 
 pub one_more_guard : {old new : Nodes} → Extends old new → (d : Diagram) (leaves : List ℕ) (guarded : List (ℕ × Diagram)) (n : ℕ) (g : Diagram) → AreGuards old d leaves guarded → Means new g (reads_as d n) → AreGuards new d (leaves ++ n ∷ []) (guarded ++ (n, g) ∷ [])
 one_more_guard {old} {new} e d leaves guarded n g h m = record {

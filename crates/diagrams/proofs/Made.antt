@@ -7,7 +7,7 @@ use Rattle.diagrams.specs.declared.node.CondNo.{CondNo}
 use Rattle.diagrams.specs.declared.node.Diagram.{Diagram}
 use Rattle.diagrams.specs.declared.node.NodeForm.{NodeForm}
 use Rattle.diagrams.specs.declared.node.NodeForm.TheVariants.{Leaf, Node}
-use Rattle.diagrams.specs.Meaning.{Nodes, Assignment, meaning, form_meaning, tested, selected, reads_as, Extends, Means, DependsBehind}
+use Rattle.diagrams.specs.Meaning.{Nodes, Assignment, meaning, form_meaning, selected, reads_as, Extends, Means, DependsBehind}
 use Rattle.diagrams.specs.Table.{IsTest, Stands, IsTable}
 use Rattle.diagrams.specs.Cases.{case_meaning, Answers}
 use Rattle.diagrams.proofs.Meanings.{stays}
@@ -28,14 +28,6 @@ top_means nodes d form t at =
       within = inside;
       reads = λ later e σ. stays e σ d inside ∙ means_top nodes t σ d form at ∙ sym (form_stays e σ d.0 form inside (t.stands d.0 form at));
     }
-
--- a test whose parts are one diagram
-pub one_part : (nodes : Nodes) (test : CondNo) (high low : Diagram) → high.0 < length nodes → high ≡ low → Means nodes high (tested test high low)
-one_part nodes test high low inside e = record { within = inside; reads = λ later more σ. by later σ (σ test.0) }
-  where
-    by : (later : Nodes) (σ : Assignment) (b : Bool) → meaning later σ high ≡ cond b (meaning later σ high) (meaning later σ low)
-    by later σ true = refl
-    by later σ false = ap (meaning later σ) e
 
 -- the answer to a case
 pub answer_means : (nodes : Nodes) (c : Case) (d : Diagram) → Answers nodes c d → Means nodes d (λ later σ. case_meaning later σ c)

@@ -6,7 +6,7 @@ use Rattle.diagrams.specs.declared.node.NodeForm.{NodeForm}
 use Rattle.diagrams.specs.declared.node.NodeForm.TheVariants.{Leaf, Node}
 use Rattle.diagrams.specs.declared.case.Case.{Case}
 use Rattle.diagrams.specs.declared.case.Split.{Split}
-use Rattle.diagrams.specs.Meaning.{Nodes, Assignment, meaning, DependsBehind, Extends, Means, tested}
+use Rattle.diagrams.specs.Meaning.{Nodes, Assignment, meaning, Extends, Means, tested}
 use Rattle.diagrams.specs.Table.{TestsFrom, StartsAt, IsTest, IsTable}
 use Rattle.diagrams.specs.Cases.{IsWithin, Answers, case_meaning}
 use Rattle.diagrams.specs.Search.{HasTest, Earlier, IsPart, IsPartOfCase, IsSplit, IsTested, weight}
@@ -131,7 +131,3 @@ split_answer old new e s high low d h a b m = record {
     by : (σ : Assignment) (truth : Bool) → σ s.test.0 ≡ truth → cond (σ s.test.0) (meaning new σ high) (meaning new σ low) ≡ case_meaning old σ s.whole
     by σ true t = ap (λ x. cond x (meaning new σ high) (meaning new σ low)) t ∙ stays e σ high a.within ∙ a.means σ ∙ sym (h.high.means σ t)
     by σ false t = ap (λ x. cond x (meaning new σ high) (meaning new σ low)) t ∙ stays e σ low b.within ∙ b.means σ ∙ sym (h.low.means σ t)
-
--- what the answers to the parts depend on
-pub answer_behind : (nodes : Nodes) (c : Case) (test : CondNo) (truth : Bool) (p : Case) (d : Diagram) → IsPartOfCase nodes c test truth p → Answers nodes p d → DependsBehind nodes test.0 d
-answer_behind nodes c test truth p d h a = record { same = λ σ τ agree. a.means σ ∙ h.same σ τ agree ∙ sym (a.means τ) }

@@ -1,11 +1,11 @@
 //! The answers to cases, found by their parts. What waits for a part stands in a list, so a diagram may be as deep as there are
 //! conditions and takes no stack.
 
-ghost use Rattle.std.specs.Prelude.{◌≡◌, ◌<◌, ◌≤◌, ◌+◌, length, true, IfOk, OnOk};
+ghost use Rattle.std.specs.Prelude.{◌≡◌, ◌<◌, ◌+◌, length, IfOk, OnOk};
 ghost use Rattle.diagrams.specs.Meaning.{Extends};
 ghost use Rattle.diagrams.specs.Table.{StartsAt};
 ghost use Rattle.diagrams.specs.Cases.{Answers, IsWithin};
-ghost use Rattle.diagrams.specs.Search.{Descends, Earlier, HasTest, IsTested, IsPart, IsPartOfCase, IsSplit, Chain, Pending, Resumes, TellsOf, load, load_of, cost, weight, whole_of};
+ghost use Rattle.diagrams.specs.Search.{Descends, Earlier, HasTest, IsTested, IsPart, IsPartOfCase, IsSplit, Resumes, TellsOf, load, load_of, cost, weight, whole_of};
 
 use crate::case::{Case, Known, Split, Waiting};
 use crate::{CondNo, Diagram, Diagrams, NoMemory, NodeForm};
