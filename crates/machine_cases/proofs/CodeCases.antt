@@ -53,23 +53,23 @@ module _ (captured : Names) where
   abbrev in_finally : Finally → Bound Finally
   in_finally = fold-Finally (Bound StmtForm) (Bound Case) (Bound Catch) (Bound Finally) (Bound Stmt) (C.of_stmt_form captured) (C.of_case captured) (C.of_catch captured) (C.of_finally captured) (C.of_stmt captured)
 
-  form_bound : (f : StmtForm) (bound : Names) → in_form f bound
+  pub form_bound : (f : StmtForm) (bound : Names) → in_form f bound
       ≡ C.of_stmt_form captured (map-StmtForm StmtForm Case Catch Finally Stmt (Bound StmtForm) (Bound Case) (Bound Catch) (Bound Finally) (Bound Stmt) in_form in_case in_catch in_finally (C.stmt captured) (out-StmtForm f)) bound
   form_bound f bound =
       ap (λ g. g bound) (fold_out-StmtForm (Bound StmtForm) (Bound Case) (Bound Catch) (Bound Finally) (Bound Stmt) (C.of_stmt_form captured) (C.of_case captured) (C.of_catch captured) (C.of_finally captured) (C.of_stmt captured) f)
 
-  stmt_bound : (t : Stmt) (bound : Names) → C.stmt captured t bound ≡ record { at = t.at; form = in_form t.form bound }
+  pub stmt_bound : (t : Stmt) (bound : Names) → C.stmt captured t bound ≡ record { at = t.at; form = in_form t.form bound }
   stmt_bound t bound =
       ap (λ g. g bound) (fold_out-Stmt (Bound StmtForm) (Bound Case) (Bound Catch) (Bound Finally) (Bound Stmt) (C.of_stmt_form captured) (C.of_case captured) (C.of_catch captured) (C.of_finally captured) (C.of_stmt captured) t)
 
-  catch_bound : (at : Place) (name : List ℕ) (body : List Stmt) (bound : Names)
+  pub catch_bound : (at : Place) (name : List ℕ) (body : List Stmt) (bound : Names)
       → in_catch (roll-Catch (record { at = at; name = name; body = body })) bound ≡ roll-Catch (record { at = at; name = name; body = C.each (name ∷ bound) (map (C.stmt captured) body) })
   catch_bound at name body bound =
       ap (λ g. g bound) (fold-roll-Catch (Bound StmtForm) (Bound Case) (Bound Catch) (Bound Finally) (Bound Stmt) (C.of_stmt_form captured) (C.of_case captured) (C.of_catch captured) (C.of_finally captured) (C.of_stmt captured) (record { at = at; name = name; body = body }))
 
-ruleset rolled = (stmt_bound, form_bound, catch_bound, e.rolls-Name, e.rolls-Binary, e.rolls-Func, s.rolls-Return, s.rolls-Eval)
+pub ruleset rolled = (stmt_bound, form_bound, catch_bound, e.rolls-Name, e.rolls-Binary, e.rolls-Func, s.rolls-Return, s.rolls-Eval)
 
-line_of : (s : Script) (f : FuncNo) (names : Names) {ps : List Piece} → code_pieces s f ≡ ps → code_text s f names ≡ (add_all ps (empty_line names)).bytes
+pub line_of : (s : Script) (f : FuncNo) (names : Names) {ps : List Piece} → code_pieces s f ≡ ps → code_text s f names ≡ (add_all ps (empty_line names)).bytes
 unfolding code_text
 line_of s f names e = ap (λ ps. (add_all ps (empty_line names)).bytes) e
 

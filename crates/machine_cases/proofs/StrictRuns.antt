@@ -23,6 +23,9 @@ use Rattle.js_machine.specs.Machine.Levels as KK
 use Rattle.js_machine.specs.Machine.Walks as LL
 use Rattle.js_tree.specs.declared.statement.Func.{Func}
 use Rattle.js_machine.specs.Machine.Expressions.{Return}
+use Rattle.js_tree.specs.declared.statement.Catch.{out-roll-Catch}
+use Rattle.js_tree.specs.declared.statement.Finally.{out-roll-Finally}
+use Rattle.js_tree.specs.declared.statement.StmtForm.TheFolds.{fold-roll-Catch, fold-roll-Finally}
 use Rattle.machine_cases.specs.StrictRuns.{StrictRuns}
 
 pub strict_runs : StrictRuns
@@ -39,7 +42,7 @@ strict_runs = record {
   undeclared_run = λ d. simp (opening, e.outs-Assign, e.outs-Literal, e.outs-Name, s.outs-Eval);
   declared_name_run = λ d. simp (opening, e.outs-Assign, e.outs-Literal, e.outs-Name, s.outs-Eval, s.outs-Var);
   undeclared_type_run = λ d. simp (opening, e.outs-Name, e.outs-Unary, s.outs-Var);
-  value_before_name_run = λ d. simp (opening, e.outs-Assign, e.outs-Call, e.outs-Literal, e.outs-Name, s.outs-Eval, s.outs-FuncDecl, s.outs-Return, s.outs-Try, s.outs-Var);
+  value_before_name_run = λ d. simp (opening, e.outs-Assign, e.outs-Call, e.outs-Literal, e.outs-Name, s.outs-Eval, s.outs-FuncDecl, s.outs-Return, s.outs-Try, s.outs-Var, out-roll-Catch, fold-roll-Catch);
   refused_delete_run = λ d. simp (opening, e.outs-Member, e.outs-Name, e.outs-Unary, s.outs-Eval, s.outs-FuncDecl);
   other_refused_delete_run = λ d. simp (opening, e.outs-Member, e.outs-Name, e.outs-Unary, s.outs-FuncDecl, s.outs-Var);
   own_directive_run = λ d. simp (opening, e.outs-Call, e.outs-Name, e.outs-This, e.outs-Unary, s.outs-FuncDecl, s.outs-Return, s.outs-Var);
@@ -47,7 +50,7 @@ strict_runs = record {
   inner_function_run = λ d. simp (opening, e.outs-Call, e.outs-Func, e.outs-Name, e.outs-This, e.outs-Unary, s.outs-FuncDecl, s.outs-Return, s.outs-Var);
   other_function_called_run = λ d. simp (opening, e.outs-Call, e.outs-Name, e.outs-This, e.outs-Unary, s.outs-FuncDecl, s.outs-Return, s.outs-Var);
   strict_setter_run = λ d. simp (opening, e.outs-Assign, e.outs-Literal, e.outs-Member, e.outs-Name, e.outs-ObjectLit, s.outs-Eval, s.outs-Var, outs-Setter);
-  handler_name_run = λ d. simp (opening, e.outs-Assign, e.outs-Literal, e.outs-Name, s.outs-Eval, s.outs-Try, s.outs-Var);
+  handler_name_run = λ d. simp (opening, e.outs-Assign, e.outs-Literal, e.outs-Name, s.outs-Eval, s.outs-Try, s.outs-Var, out-roll-Catch, fold-roll-Catch);
   constructed_run = λ d. simp (opening, e.outs-Assign, e.outs-Literal, e.outs-Member, e.outs-Name, e.outs-New, e.outs-This, s.outs-Eval, s.outs-FuncDecl, s.outs-Var);
   closed_object_run = λ d. simp (opening, e.outs-Assign, e.outs-Call, e.outs-Literal, e.outs-Member, e.outs-Name, e.outs-ObjectLit, s.outs-Eval, s.outs-Var);
   other_closed_object_run = λ d. simp (opening, e.outs-Assign, e.outs-Call, e.outs-Literal, e.outs-Member, e.outs-Name, e.outs-ObjectLit, s.outs-Eval, s.outs-Var);

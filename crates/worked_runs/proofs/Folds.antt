@@ -8,7 +8,6 @@ use Rattle.js_tree.specs.declared.expression.ExprForm.TheFolds.{map-ExprForm, ma
 use Rattle.script_text.specs.Expressions as E
 use Rattle.script_text.specs.Expressions.{Printed}
 use Rattle.script_text.specs.Pieces.{Piece}
-use Rattle.js_machine.specs.Machine.Creating.{function}
 
 module _ (function : Bool → FuncNo → List Piece) where
   abbrev pub printed_layer : Expr → Printed

@@ -18,20 +18,19 @@ use Rattle.js_tree.specs.declared.expression.Field.TheVariants as field
 use Rattle.js_tree.specs.declared.statement.Declarator.{Declarator}
 use Rattle.js_tree.specs.declared.statement.Func.{Func}
 use Rattle.js_tree.specs.declared.statement.Name.{Name}
-use Rattle.js_tree.specs.declared.statement.Script.{Script}
 use Rattle.js_tree.specs.declared.statement.StmtForm.TheFolds.{fold_out-Stmt, fold_out-StmtForm}
 use Rattle.js_tree.specs.declared.statement.StmtForm.TheVariants as s
-use Rattle.js_machine.specs.Machine.Listed.{FreeNames}
+use Rattle.js_machine.specs.Machine.Codes.{of_functions}
+use Rattle.js_machine.specs.Machine.Listed.{FreeNames, free_in}
 use Rattle.worked_runs.specs.WorkedRuns.{make_function, inc_function, get_function, counter_script, makers_script, inherited_setter_script, throwing_setter_script}
-use Rattle.js_machine.specs.Machine.Expressions.{Return}
 
 -- the free names of each function, where this is what the insides of the functions mention
 abbrev pub names_by : List Inside → FreeNames
 names_by all f = distinct (flat_map mentioned_name (nth 0 all f).1)
 
-pub names_of : (s : Script) (all : List Inside) → insides s ≡ all → free_names s ≡ names_by all
+pub names_of : (functions : List Func) (all : List Inside) → insides (of_functions functions) ≡ all → free_in functions ≡ names_by all
 unfolding free_names
-names_of s all is = ap names_by is
+names_of functions all is = ap names_by is
 
 -- what the inside of a function mentions, where these functions are behind it, with these insides
 abbrev inside_of : ℕ → List Func → List Inside → Func → Inside
@@ -189,26 +188,26 @@ inherited_insides = ([], Assigns (place 63) (codes "hits") ∷ Reads (place 70) 
 abbrev pub throwing_insides : List Inside
 throwing_insides = ([], []) ∷ []
 
-throwing_inside : insides throwing_setter_script ≡ throwing_insides
+throwing_inside : insides (of_functions throwing_setter_script.funcs) ≡ throwing_insides
 unfolding hoisted_vars hoisted_functions
 throwing_inside = simp (mentioning, s.outs-Throw)
 
-pub throwing_names : free_names throwing_setter_script ≡ names_by throwing_insides
-throwing_names = names_of throwing_setter_script throwing_insides throwing_inside
+pub throwing_names : free_in throwing_setter_script.funcs ≡ names_by throwing_insides
+throwing_names = names_of throwing_setter_script.funcs throwing_insides throwing_inside
 
-inherited_inside : insides inherited_setter_script ≡ inherited_insides
+inherited_inside : insides (of_functions inherited_setter_script.funcs) ≡ inherited_insides
 unfolding hoisted_vars hoisted_functions
 inherited_inside = simp (mentioning, s.outs-Eval)
 
-pub inherited_names : free_names inherited_setter_script ≡ names_by inherited_insides
-inherited_names = names_of inherited_setter_script inherited_insides inherited_inside
+pub inherited_names : free_in inherited_setter_script.funcs ≡ names_by inherited_insides
+inherited_names = names_of inherited_setter_script.funcs inherited_insides inherited_inside
 
-makers_inside : insides makers_script ≡ makers_insides
+makers_inside : insides (of_functions makers_script.funcs) ≡ makers_insides
 unfolding hoisted_vars hoisted_functions
 makers_inside = simp (mentioning, s.outs-Return)
 
-pub makers_names : free_names makers_script ≡ names_by makers_insides
-makers_names = names_of makers_script makers_insides makers_inside
+pub makers_names : free_in makers_script.funcs ≡ names_by makers_insides
+makers_names = names_of makers_script.funcs makers_insides makers_inside
 
 in_get : inside_of 2 [] [] get_function ≡ get_inside
 unfolding hoisted_vars hoisted_functions
@@ -222,5 +221,5 @@ in_make : inside_of 0 (inc_function ∷ get_function ∷ []) (inc_inside ∷ get
 unfolding hoisted_vars hoisted_functions
 in_make = simp (mentioning, s.outs-Return, s.outs-Var)
 
-pub counter_names : free_names counter_script ≡ names_by counter_insides
-counter_names = names_of counter_script counter_insides (of_three make_function inc_function get_function make_inside inc_inside get_inside in_get in_inc in_make)
+pub counter_names : free_in counter_script.funcs ≡ names_by counter_insides
+counter_names = names_of counter_script.funcs counter_insides (of_three make_function inc_function get_function make_inside inc_inside get_inside in_get in_inc in_make)

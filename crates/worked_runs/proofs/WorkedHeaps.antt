@@ -35,7 +35,6 @@ use Rattle.js_machine.specs.Machine.ArrayBuiltins as II
 use Rattle.js_machine.specs.Machine.Realm as JJ
 use Rattle.js_machine.specs.Machine.Levels as KK
 use Rattle.js_machine.specs.Machine.Walks as LL
-use Rattle.js_tree.specs.declared.statement.Func.{Func}
 
 -- a run of 200 steps, where thirty nodes and more may be active at once
 abbrev pub run : ℕ → ℕ → Script → Outcome

@@ -206,13 +206,13 @@ throwing_setter_text =
 
 -- each run may take 200 steps, and ends or leaves within them
 pub record WorkedRuns : Type 0 where
-  pub nothing_run : outcome_text nothing (plain nothing no_world 200) ≡ Some (line (codes "normal"))
-  pub sum_run : outcome_text sum_script (plain sum_script no_world 200) ≡ Some a_number_text
+  pub nothing_run : outcome_text nothing.funcs (plain nothing no_world 200) ≡ Some (line (codes "normal"))
+  pub sum_run : outcome_text sum_script.funcs (plain sum_script no_world 200) ≡ Some a_number_text
   pub minus_zero_run : plain minus_zero_script no_world 200 ≡ Left MinusZero (place 8)
-  pub cycle_run : outcome_text cycle_script (plain cycle_script no_world 200) ≡ Some a_cycle_text
-  pub function_run : outcome_text function_script (plain function_script no_world 200) ≡ Some a_function_text
-  pub changes_run : outcome_text changes_script (plain changes_script no_world 200) ≡ Some realm_changes_text
-  pub counter_run : outcome_text counter_script (plain counter_script no_world 200) ≡ Some counter_text
-  pub makers_run : outcome_text makers_script (plain makers_script no_world 200) ≡ Some makers_text
-  pub inherited_setter_run : outcome_text inherited_setter_script (plain inherited_setter_script no_world 200) ≡ Some inherited_setter_text
-  pub throwing_setter_run : outcome_text throwing_setter_script (plain throwing_setter_script no_world 200) ≡ Some throwing_setter_text
+  pub cycle_run : outcome_text cycle_script.funcs (plain cycle_script no_world 200) ≡ Some a_cycle_text
+  pub function_run : outcome_text function_script.funcs (plain function_script no_world 200) ≡ Some a_function_text
+  pub changes_run : outcome_text changes_script.funcs (plain changes_script no_world 200) ≡ Some realm_changes_text
+  pub counter_run : outcome_text counter_script.funcs (plain counter_script no_world 200) ≡ Some counter_text
+  pub makers_run : outcome_text makers_script.funcs (plain makers_script no_world 200) ≡ Some makers_text
+  pub inherited_setter_run : outcome_text inherited_setter_script.funcs (plain inherited_setter_script no_world 200) ≡ Some inherited_setter_text
+  pub throwing_setter_run : outcome_text throwing_setter_script.funcs (plain throwing_setter_script no_world 200) ≡ Some throwing_setter_text
