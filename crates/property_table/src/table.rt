@@ -1,9 +1,13 @@
 //! Properties by their keys.
 
-ghost use Rattle.std.specs.Prelude.{◌≡◌, ◌∷◌, [], true, length, is_some, IfNone, IfSome, OnErr, OnOk};
+ghost use Rattle.std.specs.Prelude.{◌≡◌, ◌<◌, ◌^◌, ◌∷◌, ◌++◌, [], ℕ, List, None, Some, length, slice_get, slice_set, true, is_some, IfNone, IfSome, OnErr, OnOk};
 ghost use Rattle.std.specs.Option.{option_copied};
+ghost use Rattle.indexmap.specs.IndexMap.{get};
+ghost use Rattle.js_value.specs.Conversions.{is_same_text};
 ghost use Rattle.plain_heap.specs.Heap.{lookup, put_at, without};
 ghost use Rattle.plain_heap.specs.Valid.{are_distinct};
+ghost use Rattle.property_table.specs.declared.table.Slot.{Slot as TheSlot};
+ghost use Rattle.property_table.specs.Slots.{valued, with_place};
 
 use indexmap::IndexMap;
 use js_value::{NoMemory, Text};
@@ -22,12 +26,12 @@ struct Slot<V> {
 pub struct PropertyTable<V> {
     slots: Vec<Option<Slot<V>>>,
     places: IndexMap<Text, usize>,
+    count: usize,
 }
 
 impl<V> Model for PropertyTable<V> {
     ghost use Rattle.std.specs.Prelude.{List, ℕ};
-    ghost use Rattle.std.specs.Cmp.Lexicographic.{pointwise};
-    ghost use Rattle.std.specs.Prelude.{nat_eq};
+    ghost use Rattle.js_value.specs.Conversions.{is_same_text};
     ghost use Rattle.indexmap.specs.IndexMap.{get};
     ghost use Rattle.property_table.specs.Slots.{present, AreKnown};
 
@@ -35,7 +39,62 @@ impl<V> Model for PropertyTable<V> {
 
     ghost view = { λ t. present t.slots.items };
 
-    ghost invariant = { λ t. AreKnown t.slots.items (get (pointwise nat_eq) t.places) };
+    ghost invariant = { λ t. AreKnown t.slots.items (get is_same_text t.places) t.count };
+}
+
+/// The place of a key.
+fn place(places: &IndexMap<Text, usize>, key: &Text) -> Option<usize>
+    ensures { result ≡ get is_same_text places.now key.now }
+{
+    places.get(key).copied()
+}
+
+/// The value of the property in a slot.
+fn value_at<V>(slots: &[Option<Slot<V>>], at: usize) -> Option<&V>
+    requires { at < length slots.now }
+    ensures { (slot : TheSlot V) → slice_get slots.now at ≡ Some (Some slot) → option_copied result ≡ Some slot.value }
+{
+    match &slots[at] {
+        Some(slot) => Some(&slot.value),
+        None => None,
+    }
+}
+
+/// Gives the property in a slot another value.
+fn set_value<V: Drop>(slots: &mut Vec<Option<Slot<V>>>, at: usize, value: V)
+    requires { at < length slots.old.items }
+    ensures { (slot : TheSlot V) → slice_get slots.old.items at ≡ Some (Some slot) → slots.new.items ≡ slice_set slots.old.items at (Some (valued slot value)) }
+{
+    if let Some(slot) = &mut slots[at] {
+        slot.value = value;
+    }
+}
+
+/// Empties a slot.
+fn empty<V: Drop>(slots: &mut Vec<Option<Slot<V>>>, at: usize)
+    requires { at < length slots.old.items }
+    ensures { slots.new.items ≡ slice_set slots.old.items at None }
+{
+    slots[at] = None;
+}
+
+/// Puts a property in a slot behind the others, or changes nothing.
+fn add<V: Drop>(
+    slots: &mut Vec<Option<Slot<V>>>,
+    places: &mut IndexMap<Text, usize>,
+    key: Text,
+    slot: Slot<V>,
+) -> Result<(), NoMemory>
+    ensures slots { OnOk result (slots.new.items ≡ slots.old.items ++ Some slot ∷ []) }
+    ensures places { OnOk result ((q : List ℕ) → get is_same_text places.new q ≡ with_place key (Some (length slots.old.items)) (get is_same_text places.old) q) }
+    ensures few { length slots.old.items < 2 ^ 63 }
+    ensures slots_stay { OnErr result (slots.new.items ≡ slots.old.items) }
+    ensures places_stay { OnErr result ((q : List ℕ) → get is_same_text places.new q ≡ get is_same_text places.old q) }
+{
+    slots.reserve(1)?;
+    places.insert(key, slots.len())?;
+    slots.push(Some(slot))?;
+    Ok(())
 }
 
 impl<V: Drop> PropertyTable<V> {
@@ -46,6 +105,7 @@ impl<V: Drop> PropertyTable<V> {
         PropertyTable {
             slots: Vec::new(alloc),
             places: IndexMap::new(alloc),
+            count: 0,
         }
     }
 
@@ -54,17 +114,16 @@ impl<V: Drop> PropertyTable<V> {
         ensures len { result ≡ length self.now }
         ensures once { are_distinct self.now ≡ true }
     {
-        self.places.len()
+        self.count
     }
 
     /// The value at a key.
     pub fn get(&self, key: &Text) -> Option<&V>
         ensures value { option_copied result ≡ lookup key.now self.now }
     {
-        let place = self.places.get(key)?;
-        match &self.slots[*place] {
-            Some(slot) => Some(&slot.value),
+        match place(&self.places, key) {
             None => None,
+            Some(at) => value_at(self.slots.as_slice(), at),
         }
     }
 
@@ -74,20 +133,21 @@ impl<V: Drop> PropertyTable<V> {
         ensures ok { OnOk result (self.new ≡ put_at key.now value self.old) }
         ensures err { OnErr result (self.new ≡ self.old) }
     {
-        if let Some(place) = self.places.get(key) {
-            if let Some(slot) = &mut self.slots[*place] {
-                slot.value = value;
+        match place(&self.places, key) {
+            Some(at) => {
+                set_value(&mut self.slots, at, value);
+                Ok(())
             }
-            return Ok(());
+            None => {
+                let slot = Slot {
+                    key: key.copy(alloc)?,
+                    value,
+                };
+                add(&mut self.slots, &mut self.places, key.copy(alloc)?, slot)?;
+                self.count += 1;
+                Ok(())
+            }
         }
-        let slot = Slot {
-            key: key.copy(alloc)?,
-            value,
-        };
-        self.slots.reserve(1)?;
-        self.places.insert(key.copy(alloc)?, self.slots.len())?;
-        self.slots.push(Some(slot))?;
-        Ok(())
     }
 
     /// Takes the property at a key away, and says whether there was one.
@@ -95,10 +155,12 @@ impl<V: Drop> PropertyTable<V> {
         ensures found { result ≡ is_some (lookup key.now self.old) }
         ensures removed { self.new ≡ without key.now self.old }
     {
-        match self.places.swap_remove(key) {
+        match place(&self.places, key) {
             None => false,
-            Some(place) => {
-                self.slots[place] = None;
+            Some(at) => {
+                self.places.swap_remove(key);
+                empty(&mut self.slots, at);
+                self.count -= 1;
                 true
             }
         }
