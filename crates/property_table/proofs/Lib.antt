@@ -1,1 +1,4 @@
-pub mod Places
+pub mod Cells
+pub mod Placing
+pub mod Moving
+pub mod Ordered
