@@ -1,5 +1,5 @@
 -- The entries of a map in the order of slots: what is found, put and left out by a key.
-use Rattle.std.proofs.Common.{◌≡◌, ◌≢◌, ℕ, zero, suc, ◌+◌, ◌-◌, ◌<◌, true, false, cond, List, [], ◌∷◌, ◌++◌, length, map, get_or, refl, sym, ap, ◌∙◌, subst, arith, Option, Some, None, inl, inr, true≢false, length-append}
+use Rattle.std.proofs.Common.{◌≤◌, ◌≡◌, ◌≢◌, ℕ, zero, suc, ◌+◌, ◌-◌, ◌<◌, true, false, cond, List, [], ◌∷◌, ◌++◌, length, map, get_or, refl, sym, ap, ◌∙◌, subst, arith, Option, Some, None, inl, inr, true≢false, length-append}
 use Rattle.std.specs.Prelude.{slice_get, slice_set, slice_index, position, is_some, IfSome}
 use Rattle.std.specs.Cmp.Lexicographic.{nat_list_eq_equiv}
 use Rattle.std.specs.List.{cons_option, filter_map, swap_remove, IsDistinct}
@@ -27,6 +27,11 @@ filter_map_map h (x ∷ xs) = grind (arith, filter_map_map h xs)
 
 same_sym : (k m : Key) → is_same_text k m ≡ is_same_text m k
 same_sym k m = nat_list_eq_equiv.symm k m
+
+no_more : (slots : List Slot) → length (named slots) ≤ length slots
+no_more [] = omega arith
+no_more (None ∷ slots) = omega (arith, no_more slots)
+no_more (Some n ∷ slots) = omega (arith, no_more slots)
 
 module _ {V : Type 0} where
   abbrev pub entry_in : List (Key × V) → Slot → Cell V
@@ -93,6 +98,18 @@ module _ {V : Type 0} where
 
   pub same_named : (es : List (Key × V)) (before after : List Slot) → named after ≡ named before → in_order es after ≡ in_order es before
   same_named es before after same = by_named es after ∙ ap (filter_map (slice_get es)) same ∙ sym (by_named es before)
+
+  -- where no slot is empty, a position is that of its slot
+  at_slot : (es : List (Key × V)) (slots : List Slot) → ((j m : ℕ) → get_or slots j None ≡ Some m → m < length es) → length (named slots) ≡ length slots
+      → (i n : ℕ) (e : Key × V) → get_or slots i None ≡ Some n → slice_get es n ≡ Some e → slice_get (in_order es slots) i ≡ Some e
+  at_slot es [] all full i n e at is = absurd (none-some n at)
+  at_slot es (None ∷ slots) all full i n e at is = absurd (omega (arith, full, no_more slots))
+  at_slot es (Some m ∷ slots) all full zero n e at is =
+      ap (λ c. slice_get (cons_option c (in_order es slots)) 0) (ap (slice_get es) (same_Some m n at) ∙ is)
+  at_slot es (Some m ∷ slots) all full (suc i) n e at is =
+      let f = has_entry es m (all 0 m refl) in
+      let rest : length (named slots) ≡ length slots = omega (arith, full) in
+      ap (λ c. slice_get (cons_option c (in_order es slots)) (suc i)) f.1 ∙ at_slot es slots (λ j. all (suc j)) rest i n e at is
 
   -- an entry at an index with this key
   pub record IsEntry (es : List (Key × V)) (key : Key) (n : ℕ) (e : Key × V) : Type 0 where
@@ -342,6 +359,9 @@ module _ {V : Type 0} where
         by [] all = refl
         by (None ∷ rest) all = by rest (λ i. all (suc i))
         by (Some m ∷ rest) all = by_entry m rest (slice_get es m) (all 0 m refl) refl (by rest (λ i. all (suc i)))
+
+    pub at_full : length slots ≡ length es → (i n : ℕ) (e : Key × V) → get_or slots i None ≡ Some n → slice_get es n ≡ Some e → slice_get (in_order es slots) i ≡ Some e
+    at_full full = at_slot es slots in_entries (placed.count ∙ kept.number ∙ sym full)
 
     -- ---- by the place of a key among the map's keys
 

@@ -120,6 +120,26 @@ impl<V: Drop> PropertyTable<V> {
             slots: self.slots.indices.as_slice(),
         }
     }
+
+    /// The property at a position, in the order of creation: at once where no slot is empty, else by a walk, so that `iter` is the
+    /// way to all of them.
+    pub fn at(&self, i: usize) -> (&Text, &V)
+        requires { i < length self.now }
+        ensures { slice_get self.now i ≡ Some (result.0.now, result.1.now) }
+    {
+        if self.slots.indices.len() == self.map.len() {
+            if let Some(n) = self.slots.indices[i] {
+                if let Some(property) = self.map.get_index(n) {
+                    return property;
+                }
+            }
+        }
+        let mut properties = self.iter();
+        for _ in 0..i {
+            properties.next();
+        }
+        properties.next().unwrap()
+    }
 }
 
 /// Properties that are still to be shown.
