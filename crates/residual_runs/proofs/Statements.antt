@@ -1,10 +1,10 @@
 -- The runs of operands and of statements, one lemma for each form.
-use Rattle.std.proofs.Common.{◌≡◌, ℕ, suc, ◌+◌, Bool, true, false, List, [], ◌∷◌, refl, ap, ◌∙◌, zero-add, arith}
+use Rattle.std.proofs.Common.{◌≡◌, ℕ, suc, ◌+◌, Bool, true, false, List, [], ◌∷◌, refl, ap, subst, sym, ◌∙◌, zero-add, arith}
 use Rattle.std.specs.Prelude.{ℤ, if◌then◌else◌, length, slice_get, Ok, Option, Some, None}
 use Rattle.std.specs.List.{list_any}
 use Rattle.std.proofs.lemmas.Bool.{both_ways}
 use Rattle.js_value.specs.declared.place.FuncNo.{FuncNo}
-use Rattle.js_value.specs.Conversions.{to_boolean, to_number}
+use Rattle.js_value.specs.Conversions.{to_boolean, to_number, to_text}
 use Rattle.js_value.specs.Numbers.{negated}
 use Rattle.js_value.specs.Operators.{unary_row}
 use Rattle.js_value.specs.declared.operator.UnaryOp.TheVariants as unary
@@ -23,17 +23,19 @@ use Rattle.js_tree.specs.declared.statement.Finally.{Finally}
 use Rattle.js_tree.specs.declared.statement.Stmt.{Stmt}
 use Rattle.js_tree.specs.declared.statement.StmtForm.{StmtForm}
 use Rattle.js_tree.specs.declared.statement.StmtForm.TheOpen.{StmtForm-F}
-use Rattle.plain_heap.specs.Heap.{Key, Heap, ObjectState, Plain, cell, lookup, make_object, resolve, set_cell, set_object}
+use Rattle.plain_heap.specs.Heap.{Key, Heap, ObjectState, Plain, Builtin, is_function, cell, lookup, make_object, resolve, set_cell, set_object}
 use Rattle.plain_heap.specs.Methods as methods
 use Rattle.plain_heap.specs.Valid.{is_absent}
-use Rattle.plain_heap.specs.Values.{Value, Prim, Object, Absent, Symbolic, ObjNo, CellNo, truth}
+use Rattle.plain_heap.specs.Values.{Value, Prim, Object, Absent, Symbolic, ObjNo, CellNo, truth, undefined}
 use Rattle.js_machine.specs.Machine.Creating.{function_expression}
 use Rattle.js_machine.specs.Machine.Events.{Tree, Step, Run, ◌>>=◌, choose, each, leave, take_input}
 use Rattle.js_machine.specs.Machine.Operators as operators
-use Rattle.js_machine.specs.Machine.RealmObjects.{object_prototype}
+use Rattle.js_machine.specs.Machine.RealmObjects.{object_prototype, TypeError}
 use Rattle.js_machine.specs.Machine.Expressions as expressions
 use Rattle.js_machine.specs.Machine.Expressions.{Completion, Normal, Ev, site, expr_rule, reference_rule}
-use Rattle.js_machine.specs.Machine.Levels.{Setting, within, ev_of}
+use Rattle.js_machine.specs.Machine.Levels.{Setting, within, ev_of, class_of, perform_call, builtin, call_class, run_rule}
+use Rattle.js_machine.specs.Machine.ObjectBuiltins.{Rule}
+use Rattle.js_machine.specs.Machine.Realm.{builtin_rule}
 use Rattle.js_machine.specs.Machine.Objects as objects
 use Rattle.js_machine.specs.Machine.Objects.{Site}
 use Rattle.js_machine.specs.Machine.References as references
@@ -41,9 +43,9 @@ use Rattle.js_machine.specs.Machine.References.{Context, Reference, NameReferenc
 use Rattle.js_machine.specs.Machine.Statements as rules
 use Rattle.js_machine.specs.Machine.Statements.{statements, stmt_rule}
 use Rattle.js_machine.specs.Machine.Walks.{World, Answer, called, is_of_kind, walk}
-use Rattle.js_machine.proofs.Opening.{at_expr, at_reference, at_stmt}
+use Rattle.js_machine.proofs.Opening.{at_expr, at_reference, at_stmt, at_call, at_builtin}
 use Rattle.residual_runs.specs.Runs.{State, Runs, Throws}
-use Rattle.residual_runs.specs.Statements.{IsExpr, IsStmt, Puts, AssignsName, AssignsMember, BodiesRun, evaluate, execute}
+use Rattle.residual_runs.specs.Statements.{IsExpr, IsStmt, Puts, AssignsName, AssignsMember, AssignsIndex, BodiesRun, evaluate, execute}
 use Rattle.residual_runs.proofs.Runs.{at_once, followed, behind_step, throws_first, throws_then, throws_behind_step, counted}
 
 -- ---- properties
@@ -288,6 +290,43 @@ module _ (set : Setting) (calls : ℕ) (context : Context) (w : World) where
   unfolding stmt_rule
   block_runs d t body before after i completion is runs = stmt_runs d t (StmtForm-F.Block body) is runs
 
+  index_target : (d : ℕ) (e base index : Expr) (key : Key) (o : ObjNo) (before after : State) (i : ℕ) → IsExpr e (ExprForm-F.Index base index) → IsExpr index (ExprForm-F.Literal (primitive.Text key))
+      → Runs w (evaluate set calls context (suc d) base) before i (Object o) after
+      → Runs w ((within set (suc (suc d)) calls).reference context e) before (2 + i) (PropertyReference (Object o) key context.strict) after
+  unfolding reference_rule expressions.index_reference operators.to_key to_text
+  index_target d e base index key o before after i is literal runs =
+      counted w (sum i)
+      (reference_runs (suc d) e (ExprForm-F.Index base index) is
+      (followed w {f = λ base. evaluate set calls context (suc d) index >>= (λ name. objects.check_base e.at base >>= (λ _. operators.to_key e.at name >>= (λ key s k r. k (PropertyReference base key context.strict) s)))} runs
+      (followed w {f = λ name. objects.check_base e.at (Object o) >>= (λ _. operators.to_key e.at name >>= (λ key s k r. k (PropertyReference (Object o) key context.strict) s))} (literal_runs d index (primitive.Text key) after literal)
+      (at_once w (λ k r. refl)))))
+    where
+      sum : (i : ℕ) → 1 + (i + (1 + 0)) ≡ 2 + i
+      sum i = omega arith
+
+  index_gets : (d : ℕ) (t : Stmt) (base value : Expr) (key : Key) (before mid after : State) (i j : ℕ) (o : ObjNo) (v : Value) (state : ObjectState) → AssignsIndex t base key value
+      → Runs w (evaluate set calls context (suc d) base) before i (Object o) mid → Runs w (evaluate set calls context (suc (suc d)) value) mid j v after → context.strict ≡ false → Puts after.heap o key v state
+      → Runs w (execute set calls context (suc (suc (suc (suc d)))) t) before (4 + (i + j)) Normal (record after { heap = set_object o state after.heap })
+  index_gets d t base value key before mid after i j o v state says first second sloppy puts =
+      counted w (sum i j)
+      (assigns (suc d) t says.assignment says.target value (PropertyReference (Object o) key context.strict) v says.is_statement says.is_assignment
+      (index_target d says.target base says.index key o before mid i says.is_target says.is_index first) second (property_written (site (ev (suc (suc d))) says.assignment.at) o key v after state sloppy puts))
+    where
+      sum : (i j : ℕ) → 2 + ((2 + i) + j) ≡ 4 + (i + j)
+      sum i j = omega arith
+
+  if_throws : (d : ℕ) (t : Stmt) (e : Expr) (a : Stmt) (b : Option Stmt) (before mid after : State) (i j : ℕ) (v : Value) → IsStmt t (StmtForm-F.If e a b) → Runs w (evaluate set calls context d e) before i (truth true) mid
+      → Throws w (execute set calls context d a) mid j v after → Throws w (execute set calls context (suc d) t) before (1 + (i + j)) v after
+  unfolding stmt_rule rules.if_rule operators.test to_boolean
+  if_throws d t e a b before mid after i j v is first second =
+      stmt_throws d t (StmtForm-F.If e a b) is
+      (throws_then w {f = λ v. operators.test t.at v >>= (λ c. choose c (execute set calls context d a) (rules.maybe_stmt (ev d) context b))} first (record { at = λ n k r. second.at n k r }))
+
+  block_throws : (d : ℕ) (t : Stmt) (body : List Stmt) (before after : State) (i : ℕ) (v : Value) → IsStmt t (StmtForm-F.Block body) → Throws w (statements (execute set calls context d) body) before i v after
+      → Throws w (execute set calls context (suc d) t) before (1 + i) v after
+  unfolding stmt_rule
+  block_throws d t body before after i v is runs = stmt_throws d t (StmtForm-F.Block body) is runs
+
   -- ---- one after another
 
   none : (d : ℕ) (s : State) → Runs w (statements (execute set calls context d) []) s 0 Normal s
@@ -308,6 +347,49 @@ module _ (set : Setting) (calls : ℕ) (context : Context) (w : World) where
   unfolding statements
   others_throw d t ts before mid after i j v first second = throws_then w {f = λ completion. rules.if_normal (statements (execute set calls context d) ts) completion} first second
 
+-- ---- calls of built-ins
+
+builtin_runs : (set : Setting) (calls : ℕ) (context : Context) (w : World) (d : ℕ) (e callee : Expr) (arguments : List Expr) (values : List Value) (name : List ℕ) (c : CellNo) (o : ObjNo) (n : ℕ) (rule : Rule) (before mid after : State) (i j : ℕ) (v : Value)
+    → IsExpr e (ExprForm-F.Call callee arguments) → IsExpr callee (ExprForm-F.Name name) → resolve context.environment name ≡ Some c → cell before.heap c ≡ Some (Object o)
+    → Runs w (each (evaluate set (suc calls) context (suc d)) arguments) before i values mid → is_function mid.heap o ≡ true → class_of o mid.heap ≡ Builtin n → builtin_rule n ≡ Some rule
+    → ((site : Site) → Runs w (rule site undefined values) mid j v after)
+    → Runs w (evaluate set (suc calls) context (suc (suc d)) e) before (2 + (i + j)) v after
+unfolding expr_rule expressions.call_rule references.get_value
+builtin_runs set calls context w d e callee arguments values name c o n rule before mid after i j v is is_name bound holds args callable class there runs =
+    counted w (sum i j)
+    (expr_runs set (suc calls) context w (suc d) e (ExprForm-F.Call callee arguments) is
+    (subst (λ form. Runs w (if expressions.is_reference form then expressions.call_reference level context e.at callee arguments else expressions.call_value level context e.at callee arguments) before (1 + (0 + (i + j))) v after) (sym is_name) chosen))
+  where
+    sum : (i j : ℕ) → 1 + (1 + (0 + (i + j))) ≡ 2 + (i + j)
+    sum i j = omega arith
+
+    level : Ev
+    level = ev_of set (within set (suc d)) (suc calls)
+
+    called_so : (k r : Value → Heap → Tree) → level.call e.at (Object o) undefined values mid.heap k r ≡ rule (record { at = e.at; call = perform_call set (within set (suc d) calls) (builtin set (within set (suc d)) calls) e.at }) undefined values mid.heap k r
+    called_so k r =
+        at_call set (within set (suc d) (suc calls)) (builtin set (within set (suc d)) (suc calls)) e.at o undefined values mid.heap k r
+        ∙ ap (λ class. call_class set (within set (suc d) (suc calls)) (builtin set (within set (suc d)) (suc calls)) e.at undefined values class mid.heap k r) class
+        ∙ ap (λ rule. run_rule (builtin set (within set (suc d)) (suc calls)) e.at undefined values rule mid.heap k r) there
+        ∙ at_builtin set (within set (suc d)) calls e.at rule undefined values mid.heap k r
+
+    done : Runs w (expressions.call_checked level e.at (Object o) undefined values) mid j v after
+    done = record {
+      at = λ n k r.
+          ap (λ b. walk w (j + n) mid.calls (choose b (level.call e.at (Object o) undefined values) (objects.throw_error TypeError) mid.heap k r)) callable
+          ∙ ap (walk w (j + n) mid.calls) (called_so k r)
+          ∙ (runs (record { at = e.at; call = perform_call set (within set (suc d) calls) (builtin set (within set (suc d)) calls) e.at })).at n k r;
+    }
+
+    got : Runs w (references.get_value (site level e.at) (NameReference name (InCell c) context.strict)) before 0 (Object o) before
+    got = at_once w (λ k r. rw holds refl)
+
+    chosen : Runs w (expressions.call_reference level context e.at callee arguments) before (1 + (0 + (i + j))) v after
+    chosen =
+        followed w {f = λ ref. references.get_value (site level e.at) ref >>= (λ f. each (evaluate set (suc calls) context (suc d)) arguments >>= (λ values. expressions.call_checked level e.at f (expressions.this_of ref) values))} (name_target set (suc calls) context w d callee name c before is_name bound)
+        (followed w {f = λ f. each (evaluate set (suc calls) context (suc d)) arguments >>= (λ values. expressions.call_checked level e.at f undefined values)} got
+        (followed w {f = λ values. expressions.call_checked level e.at (Object o) undefined values} args done))
+
 -- ---- the law
 
 pub bodies_run : BodiesRun
@@ -327,6 +409,9 @@ bodies_run = record {
     temporary = temporary_gets set calls context w d;
     member = member_gets set calls context w d;
     thrown = thrown set calls context w d;
+    index = index_gets set calls context w d;
+    if_throws = if_throws set calls context w d;
+    block_throws = block_throws set calls context w d;
     if_true = if_runs set calls context w d true;
     if_false = λ t e a b before mid after i j completion is first second. if_runs set calls context w d false t e a (Some b) before mid after i j completion is first second;
     if_nothing = if_nothing set calls context w d;
@@ -336,4 +421,5 @@ bodies_run = record {
     throws_first = first_throws set calls context w d;
     throws_next = others_throw set calls context w d;
   };
+  calls = record { builtin = builtin_runs };
 }

@@ -18,19 +18,21 @@ use Rattle.js_tree.specs.declared.statement.Finally.{Finally}
 use Rattle.js_tree.specs.declared.statement.Stmt.{Stmt}
 use Rattle.js_tree.specs.declared.statement.StmtForm.{StmtForm, out-StmtForm}
 use Rattle.js_tree.specs.declared.statement.StmtForm.TheOpen.{StmtForm-F}
-use Rattle.plain_heap.specs.Heap.{Key, Heap, ObjectState, Plain, cell, lookup, make_object, object_at, resolve, set_cell, set_object}
+use Rattle.plain_heap.specs.Heap.{Key, Heap, ObjectState, Plain, Builtin, is_function, cell, lookup, make_object, object_at, resolve, set_cell, set_object}
 use Rattle.plain_heap.specs.Methods.{Descriptor, Define, Defined, GotValue, checked_key, define, get, length_key, put}
 use Rattle.plain_heap.specs.Valid.{is_absent}
-use Rattle.plain_heap.specs.Values.{Value, Prim, Object, ObjNo, CellNo, truth}
+use Rattle.plain_heap.specs.Values.{Value, Prim, Object, ObjNo, CellNo, truth, undefined}
 use Rattle.js_machine.specs.Machine.Creating.{function_expression}
 use Rattle.js_machine.specs.Machine.Events.{Run, each}
 use Rattle.js_machine.specs.Machine.Expressions.{Completion, Normal}
-use Rattle.js_machine.specs.Machine.Levels.{Setting, within}
-use Rattle.js_machine.specs.Machine.Objects.{is_array_state}
+use Rattle.js_machine.specs.Machine.Levels.{Setting, within, class_of}
+use Rattle.js_machine.specs.Machine.Objects.{is_array_state, Site}
 use Rattle.js_machine.specs.Machine.References.{Context}
 use Rattle.js_machine.specs.Machine.Statements.{statements}
 use Rattle.js_machine.specs.Machine.RealmObjects.{object_prototype}
+use Rattle.js_machine.specs.Machine.ObjectBuiltins.{Rule}
 use Rattle.js_machine.specs.Machine.Operators.{is_object}
+use Rattle.js_machine.specs.Machine.Realm.{builtin_rule}
 use Rattle.js_machine.specs.Machine.Walks.{World, Answer, called, is_of_kind}
 use Rattle.residual_runs.specs.Runs.{State, Runs, Throws}
 
@@ -66,6 +68,16 @@ pub record AssignsMember (t : Stmt) (base : Expr) (key : Key) (value : Expr) : T
   pub is_statement : IsStmt t (StmtForm-F.Eval assignment)
   pub is_assignment : IsExpr assignment (ExprForm-F.Assign target None value)
   pub is_target : IsExpr target (ExprForm-F.Member base key)
+
+-- E["k"] = E;
+pub record AssignsIndex (t : Stmt) (base : Expr) (key : Key) (value : Expr) : Type 0 where
+  pub assignment : Expr
+  pub target : Expr
+  pub index : Expr
+  pub is_statement : IsStmt t (StmtForm-F.Eval assignment)
+  pub is_assignment : IsExpr assignment (ExprForm-F.Assign target None value)
+  pub is_target : IsExpr target (ExprForm-F.Index base index)
+  pub is_index : IsExpr index (ExprForm-F.Literal (primitive.Text key))
 
 -- in one context, where so many calls of built-ins may be active
 module _ (set : Setting) (calls : ℕ) (context : Context) where
@@ -123,6 +135,9 @@ module _ (set : Setting) (calls : ℕ) (context : Context) where
       pub member : (t : Stmt) (base value : Expr) (key : Key) (before mid after : State) (i j : ℕ) (o : ObjNo) (v : Value) (state : ObjectState) → AssignsMember t base key value
           → Runs w (evaluate d base) before i (Object o) mid → Runs w (evaluate (suc d) value) mid j v after → context.strict ≡ false → Puts after.heap o key v state
           → Runs w (execute (suc (suc (suc d))) t) before (3 + (i + j)) Normal (record after { heap = set_object o state after.heap })
+      pub index : (t : Stmt) (base value : Expr) (key : Key) (before mid after : State) (i j : ℕ) (o : ObjNo) (v : Value) (state : ObjectState) → AssignsIndex t base key value
+          → Runs w (evaluate (suc d) base) before i (Object o) mid → Runs w (evaluate (suc (suc d)) value) mid j v after → context.strict ≡ false → Puts after.heap o key v state
+          → Runs w (execute (suc (suc (suc (suc d)))) t) before (4 + (i + j)) Normal (record after { heap = set_object o state after.heap })
       pub thrown : (t : Stmt) (e : Expr) (before after : State) (i : ℕ) (v : Value) → IsStmt t (StmtForm-F.Throw e) → Runs w (evaluate d e) before i v after
           → Throws w (execute (suc d) t) before (1 + i) v after
       pub if_true : (t : Stmt) (e : Expr) (a : Stmt) (b : Option Stmt) (before mid after : State) (i j : ℕ) (completion : Completion) → IsStmt t (StmtForm-F.If e a b) → Runs w (evaluate d e) before i (truth true) mid
@@ -133,12 +148,24 @@ module _ (set : Setting) (calls : ℕ) (context : Context) where
           → Runs w (execute (suc d) t) before (1 + i) Normal after
       pub block : (t : Stmt) (body : List Stmt) (before after : State) (i : ℕ) (completion : Completion) → IsStmt t (StmtForm-F.Block body) → Runs w (statements (execute d) body) before i completion after
           → Runs w (execute (suc d) t) before (1 + i) completion after
+      pub if_throws : (t : Stmt) (e : Expr) (a : Stmt) (b : Option Stmt) (before mid after : State) (i j : ℕ) (v : Value) → IsStmt t (StmtForm-F.If e a b) → Runs w (evaluate d e) before i (truth true) mid
+          → Throws w (execute d a) mid j v after → Throws w (execute (suc d) t) before (1 + (i + j)) v after
+      pub block_throws : (t : Stmt) (body : List Stmt) (before after : State) (i : ℕ) (v : Value) → IsStmt t (StmtForm-F.Block body) → Throws w (statements (execute d) body) before i v after
+          → Throws w (execute (suc d) t) before (1 + i) v after
       pub none : (s : State) → Runs w (statements (execute d) []) s 0 Normal s
       pub next : (t : Stmt) (ts : List Stmt) (before mid after : State) (i j : ℕ) → Runs w (execute d t) before i Normal mid → Runs w (statements (execute d) ts) mid j Normal after
           → Runs w (statements (execute d) (t ∷ ts)) before (i + j) Normal after
       pub throws_first : (t : Stmt) (ts : List Stmt) (before after : State) (i : ℕ) (v : Value) → Throws w (execute d t) before i v after → Throws w (statements (execute d) (t ∷ ts)) before i v after
       pub throws_next : (t : Stmt) (ts : List Stmt) (before mid after : State) (i j : ℕ) (v : Value) → Runs w (execute d t) before i Normal mid → Throws w (statements (execute d) ts) mid j v after
           → Throws w (statements (execute d) (t ∷ ts)) before (i + j) v after
+
+-- A call of a built-in that a temporary holds does what its rule does, at whatever site.
+pub record CallsRun : Type 0 where
+  pub builtin : (set : Setting) (calls : ℕ) (context : Context) (w : World) (d : ℕ) (e callee : Expr) (arguments : List Expr) (values : List Value) (name : List ℕ) (c : CellNo) (o : ObjNo) (n : ℕ) (rule : Rule) (before mid after : State) (i j : ℕ) (v : Value)
+      → IsExpr e (ExprForm-F.Call callee arguments) → IsExpr callee (ExprForm-F.Name name) → resolve context.environment name ≡ Some c → cell before.heap c ≡ Some (Object o)
+      → Runs w (each (evaluate set (suc calls) context (suc d)) arguments) before i values mid → is_function mid.heap o ≡ true → class_of o mid.heap ≡ Builtin n → builtin_rule n ≡ Some rule
+      → ((site : Site) → Runs w (rule site undefined values) mid j v after)
+      → Runs w (evaluate set (suc calls) context (suc (suc d)) e) before (2 + (i + j)) v after
 
 -- for every setting, depth, context and world
 pub record BodiesRun : Type 0 where
@@ -147,3 +174,4 @@ pub record BodiesRun : Type 0 where
   pub host : (set : Setting) (calls : ℕ) (context : Context) (w : World) (d : ℕ) → HostRuns set calls context w d
   pub functions : (set : Setting) (calls : ℕ) (context : Context) (w : World) (d : ℕ) → FunctionsRun set calls context w d
   pub statements : (set : Setting) (calls : ℕ) (context : Context) (w : World) (d : ℕ) → StatementsRun set calls context w d
+  pub calls : CallsRun
