@@ -2,6 +2,7 @@
 use Rattle.std.proofs.Common.{◌≡◌, ℕ, suc, ◌+◌, Bool, true, false, List, [], ◌∷◌, refl, ap, subst, sym, ◌∙◌, zero-add, arith}
 use Rattle.std.specs.Prelude.{ℤ, if◌then◌else◌, length, slice_get, Ok, Option, Some, None}
 use Rattle.std.specs.List.{list_any}
+use Rattle.std.specs.Option.{option_and_then}
 use Rattle.std.proofs.lemmas.Bool.{both_ways}
 use Rattle.js_value.specs.declared.place.FuncNo.{FuncNo}
 use Rattle.js_value.specs.Conversions.{to_boolean, to_number, to_text}
@@ -23,7 +24,7 @@ use Rattle.js_tree.specs.declared.statement.Finally.{Finally}
 use Rattle.js_tree.specs.declared.statement.Stmt.{Stmt}
 use Rattle.js_tree.specs.declared.statement.StmtForm.{StmtForm}
 use Rattle.js_tree.specs.declared.statement.StmtForm.TheOpen.{StmtForm-F}
-use Rattle.plain_heap.specs.Heap.{Key, Heap, ObjectState, Plain, Builtin, is_function, cell, lookup, make_object, resolve, set_cell, set_object}
+use Rattle.plain_heap.specs.Heap.{Key, Heap, ObjectState, Plain, Builtin, is_function, cell, lookup, make_object, resolve, set_cell, set_object, object_at}
 use Rattle.plain_heap.specs.Methods as methods
 use Rattle.plain_heap.specs.Valid.{is_absent}
 use Rattle.plain_heap.specs.Values.{Value, Prim, Object, Absent, Symbolic, ObjNo, CellNo, truth, undefined}
@@ -45,7 +46,7 @@ use Rattle.js_machine.specs.Machine.Statements.{statements, stmt_rule}
 use Rattle.js_machine.specs.Machine.Walks.{World, Answer, called, is_of_kind, walk}
 use Rattle.js_machine.proofs.Opening.{at_expr, at_reference, at_stmt, at_call, at_builtin}
 use Rattle.residual_runs.specs.Runs.{State, Runs, Throws}
-use Rattle.residual_runs.specs.Statements.{IsExpr, IsStmt, Puts, AssignsName, AssignsMember, AssignsIndex, BodiesRun, evaluate, execute}
+use Rattle.residual_runs.specs.Statements.{IsExpr, IsStmt, Puts, AssignsName, AssignsMember, AssignsIndex, Deletes, BodiesRun, evaluate, execute}
 use Rattle.residual_runs.proofs.Runs.{at_once, followed, behind_step, throws_first, throws_then, throws_behind_step, counted}
 
 -- ---- properties
@@ -54,6 +55,11 @@ put_is : (site : Site) (o : ObjNo) (key : Key) (v : Value) (h : Heap) (after : O
     → (k : Unit {0} → Heap → Tree) (r : Value → Heap → Tree) → objects.put site o key v false h k r ≡ k tt (set_object o after h)
 unfolding objects.put objects.define
 put_is site o key v h after p k r = rw (p.named, p.put) (rw (p.named, p.there) (rw (p.other, p.defined) refl))
+
+removed : (at : Site) (o : ObjNo) (key : Key) (throws : Bool) (state : ObjectState) (h : Heap) → methods.checked_key key ≡ Ok key → option_and_then (methods.delete key) (object_at h o) ≡ Some state
+    → (k : Bool → Heap → Tree) (r : Value → Heap → Tree) → objects.delete_of at (Object o) key throws h k r ≡ k true (set_object o state h)
+unfolding objects.delete_of objects.delete
+removed at o key throws state h named left k r = rw named (rw left refl)
 
 module _ (set : Setting) (calls : ℕ) (context : Context) (w : World) where
   abbrev ev : ℕ → Ev
@@ -327,6 +333,33 @@ module _ (set : Setting) (calls : ℕ) (context : Context) (w : World) where
   unfolding stmt_rule
   block_throws d t body before after i v is runs = stmt_throws d t (StmtForm-F.Block body) is runs
 
+  deleted : (d : ℕ) (t : Stmt) (base : Expr) (key : Key) (before mid : State) (i : ℕ) (o : ObjNo) (state : ObjectState) → Deletes t base key → Runs w (evaluate set calls context d base) before i (Object o) mid
+      → methods.checked_key key ≡ Ok key → option_and_then (methods.delete key) (object_at mid.heap o) ≡ Some state
+      → Runs w (execute set calls context (suc (suc (suc d))) t) before (3 + i) Normal (record mid { heap = set_object o state mid.heap })
+  unfolding expr_rule expressions.unary_rule expressions.delete_rule
+  deleted d t base key before mid i o state says runs named left =
+      counted w (total i)
+      (evaluated (suc (suc d)) t says.deletion before (record mid { heap = set_object o state mid.heap }) (2 + i) (truth true) says.is_statement
+      (counted w (sum i)
+      (expr_runs (suc d) says.deletion (ExprForm-F.Unary unary.Delete says.target) says.is_deletion
+      (subst (λ form. Runs w (if expressions.is_reference form then (references_of >>= deletes) else (evaluate set calls context (suc d) says.target >>= (λ _ s k r. k (truth true) s))) before ((1 + i) + 0) (truth true) (record mid { heap = set_object o state mid.heap })) (sym says.is_target)
+      (followed w {f = deletes} (member_target d says.target base key o before mid i says.is_target runs) gone)))))
+    where
+      sum : (i : ℕ) → 1 + ((1 + i) + 0) ≡ 2 + i
+      sum i = omega arith
+
+      total : (i : ℕ) → 1 + (2 + i) ≡ 3 + i
+      total i = omega arith
+
+      references_of : Run Reference
+      references_of = (within set (suc d) calls).reference context says.target
+
+      deletes : Reference → Run Value
+      deletes ref = expressions.delete_reference (site (ev (suc d)) says.deletion.at) ref
+
+      gone : Runs w (deletes (PropertyReference (Object o) key context.strict)) mid 0 (truth true) (record mid { heap = set_object o state mid.heap })
+      gone = at_once w (λ k r. removed (site (ev (suc d)) says.deletion.at) o key context.strict state mid.heap named left (λ b s. k (truth b) s) r)
+
   -- ---- one after another
 
   none : (d : ℕ) (s : State) → Runs w (statements (execute set calls context d) []) s 0 Normal s
@@ -409,6 +442,7 @@ bodies_run = record {
     temporary = temporary_gets set calls context w d;
     member = member_gets set calls context w d;
     thrown = thrown set calls context w d;
+    deleted = deleted set calls context w d;
     index = index_gets set calls context w d;
     if_throws = if_throws set calls context w d;
     block_throws = block_throws set calls context w d;

@@ -1,6 +1,7 @@
 -- What the statements of a residual's body do, wherever their nodes stand: by what a tree says, and not by its places.
 use Rattle.std.specs.Prelude.{◌≡◌, ℕ, ℤ, suc, ◌+◌, ◌&&◌, true, false, List, [], ◌∷◌, length, slice_get, Ok, Option, Some, None}
 use Rattle.std.specs.List.{list_any}
+use Rattle.std.specs.Option.{option_and_then}
 use Rattle.js_value.specs.Conversions.{is_same_text}
 use Rattle.js_value.specs.declared.place.FuncNo.{FuncNo}
 use Rattle.js_value.specs.Numbers.{negated}
@@ -19,7 +20,7 @@ use Rattle.js_tree.specs.declared.statement.Stmt.{Stmt}
 use Rattle.js_tree.specs.declared.statement.StmtForm.{StmtForm, out-StmtForm}
 use Rattle.js_tree.specs.declared.statement.StmtForm.TheOpen.{StmtForm-F}
 use Rattle.plain_heap.specs.Heap.{Key, Heap, ObjectState, Plain, Builtin, is_function, cell, lookup, make_object, object_at, resolve, set_cell, set_object}
-use Rattle.plain_heap.specs.Methods.{Descriptor, Define, Defined, GotValue, checked_key, define, get, length_key, put}
+use Rattle.plain_heap.specs.Methods.{Descriptor, Define, Defined, GotValue, checked_key, define, delete, get, length_key, put}
 use Rattle.plain_heap.specs.Valid.{is_absent}
 use Rattle.plain_heap.specs.Values.{Value, Prim, Object, ObjNo, CellNo, truth, undefined}
 use Rattle.js_machine.specs.Machine.Creating.{function_expression}
@@ -78,6 +79,14 @@ pub record AssignsIndex (t : Stmt) (base : Expr) (key : Key) (value : Expr) : Ty
   pub is_assignment : IsExpr assignment (ExprForm-F.Assign target None value)
   pub is_target : IsExpr target (ExprForm-F.Index base index)
   pub is_index : IsExpr index (ExprForm-F.Literal (primitive.Text key))
+
+-- delete E.k;
+pub record Deletes (t : Stmt) (base : Expr) (key : Key) : Type 0 where
+  pub deletion : Expr
+  pub target : Expr
+  pub is_statement : IsStmt t (StmtForm-F.Eval deletion)
+  pub is_deletion : IsExpr deletion (ExprForm-F.Unary unary.Delete target)
+  pub is_target : IsExpr target (ExprForm-F.Member base key)
 
 -- in one context, where so many calls of built-ins may be active
 module _ (set : Setting) (calls : ℕ) (context : Context) where
@@ -138,6 +147,9 @@ module _ (set : Setting) (calls : ℕ) (context : Context) where
       pub index : (t : Stmt) (base value : Expr) (key : Key) (before mid after : State) (i j : ℕ) (o : ObjNo) (v : Value) (state : ObjectState) → AssignsIndex t base key value
           → Runs w (evaluate (suc d) base) before i (Object o) mid → Runs w (evaluate (suc (suc d)) value) mid j v after → context.strict ≡ false → Puts after.heap o key v state
           → Runs w (execute (suc (suc (suc (suc d)))) t) before (4 + (i + j)) Normal (record after { heap = set_object o state after.heap })
+      pub deleted : (t : Stmt) (base : Expr) (key : Key) (before mid : State) (i : ℕ) (o : ObjNo) (state : ObjectState) → Deletes t base key → Runs w (evaluate d base) before i (Object o) mid
+          → checked_key key ≡ Ok key → option_and_then (delete key) (object_at mid.heap o) ≡ Some state
+          → Runs w (execute (suc (suc (suc d))) t) before (3 + i) Normal (record mid { heap = set_object o state mid.heap })
       pub thrown : (t : Stmt) (e : Expr) (before after : State) (i : ℕ) (v : Value) → IsStmt t (StmtForm-F.Throw e) → Runs w (evaluate d e) before i v after
           → Throws w (execute (suc d) t) before (1 + i) v after
       pub if_true : (t : Stmt) (e : Expr) (a : Stmt) (b : Option Stmt) (before mid after : State) (i j : ℕ) (completion : Completion) → IsStmt t (StmtForm-F.If e a b) → Runs w (evaluate d e) before i (truth true) mid
