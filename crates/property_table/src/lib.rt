@@ -1,0 +1,6 @@
+//! The properties of an object in code: a table by key, in the order of creation (8.6.1).
+#![tactic(auto)]
+
+mod table;
+
+pub use table::{Properties, PropertyTable};
