@@ -1,1 +1,5 @@
-pub mod Places
+pub mod Cells
+pub mod Placing
+pub mod Moving
+pub mod Ordered
+pub mod Walking

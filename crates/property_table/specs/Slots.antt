@@ -1,40 +1,35 @@
--- Slots of properties: what they hold, and where the slot of a key is.
-use Rattle.std.specs.Prelude.{◌≡◌, ℕ, suc, Bool, true, false, if◌then◌else◌, List, [], ◌∷◌, length, Option, Some, None}
-use Rattle.std.specs.Option.{option_map}
+-- How a table keeps an order: a map's entries stand in any order, and slots name them by their indices in the order of creation.
+use Rattle.std.specs.Prelude.{◌≡◌, ◌<◌, ◌≤◌, ◌+◌, ◌*◌, ℕ, List, length, slice_get, slice_index, slice_index_or, Option, Some, None}
+use Rattle.std.specs.List.{filter_map, IsDistinct}
+use Rattle.std.specs.Map.{keys_of}
+use Rattle.std.specs.Option.{option_and_then}
 use Rattle.js_value.specs.Conversions.{is_same_text}
 use Rattle.plain_heap.specs.Heap.{Key}
-use Rattle.plain_heap.specs.Valid.{are_distinct}
-use Rattle.property_table.specs.declared.table.Slot.{Slot}
 
--- a slot whose property was removed is empty
-abbrev pub Slots : Type 0 → Type 0
-Slots V = List (Option (Slot V))
+-- the index of an entry, or none where an entry was removed
+abbrev pub Slot : Type 0
+Slot = Option ℕ
 
--- the properties that are there, in the order of their slots
-abbrev pub present : {V : Type 0} → Slots V → List (Key × V)
-present [] = []
-present (None ∷ slots) = present slots
-present (Some slot ∷ slots) = (slot.key, slot.value) ∷ present slots
+-- the entries that slots name, in the order of the slots
+abbrev pub in_order : {V : Type 0} → List (Key × V) → List Slot → List (Key × V)
+in_order entries slots = filter_map (option_and_then (slice_get entries)) slots
 
-abbrev pub is_at : {V : Type 0} → Key → Option (Slot V) → Bool
-is_at key None = false
-is_at key (Some slot) = is_same_text slot.key key
+-- the indices that slots name
+abbrev pub named : List Slot → List ℕ
+named slots = filter_map (λ slot. slot) slots
 
--- where the property of a key is
-abbrev pub place_of : {V : Type 0} → Key → Slots V → Option ℕ
-place_of key [] = None
-place_of key (slot ∷ slots) = if is_at key slot then Some 0 else option_map suc (place_of key slots)
+-- each index below a count has one slot, which is known
+pub record ArePlaced (slots : List Slot) (slot_of : List ℕ) : Type 0 where
+  pub there : (n : ℕ) → n < length slot_of → slice_index_or slots (slice_index slot_of n) None ≡ Some n
+  pub known : (i n : ℕ) → slice_index_or slots i None ≡ Some n → (n < length slot_of) × (slice_index slot_of n ≡ i)
+  pub count : length (named slots) ≡ length slot_of
 
--- a key is at this place, and the others are where they were
-abbrev pub with_place : Key → Option ℕ → (Key → Option ℕ) → Key → Option ℕ
-with_place key to place q = if is_same_text key q then to else place q
+-- at most half of the slots, and one, are empty
+abbrev pub AreFew : List Slot → List ℕ → Type 0
+AreFew slots slot_of = length slots ≤ 2 * length slot_of + 1
 
--- a property with another value
-abbrev pub valued : {V : Type 0} → Slot V → V → Slot V
-valued slot v = record slot { value = v }
-
--- each key has one slot, its place is known, and the properties are counted
-pub record AreKnown {V : Type 0} (slots : Slots V) (place : Key → Option ℕ) (count : ℕ) : Type 0 where
-  pub once : are_distinct (present slots) ≡ true
-  pub known : (key : Key) → place key ≡ place_of key slots
-  pub counted : count ≡ length (present slots)
+-- each entry has a slot, each key one entry, and slots take no more room than twice the entries
+pub record AreEntries {V : Type 0} (entries : List (Key × V)) (slots : List Slot) (slot_of : List ℕ) : Type 0 where
+  pub number : length slot_of ≡ length entries
+  pub unique : IsDistinct is_same_text (keys_of entries)
+  pub few : AreFew slots slot_of

@@ -1,100 +1,32 @@
 //! Properties by their keys.
 
-ghost use Rattle.std.specs.Prelude.{◌≡◌, ◌<◌, ◌^◌, ◌∷◌, ◌++◌, [], ℕ, List, None, Some, length, slice_get, slice_set, true, is_some, IfNone, IfSome, OnErr, OnOk};
+ghost use Rattle.std.specs.Prelude.{◌≡◌, ◌<◌, ◌∷◌, [], true, None, Some, length, is_ok, is_some, slice_get, IfErr, IfNone, IfSome, OnErr, OnOk};
 ghost use Rattle.std.specs.Option.{option_copied};
-ghost use Rattle.indexmap.specs.IndexMap.{get};
-ghost use Rattle.js_value.specs.Conversions.{is_same_text};
 ghost use Rattle.plain_heap.specs.Heap.{lookup, put_at, without};
 ghost use Rattle.plain_heap.specs.Valid.{are_distinct};
-ghost use Rattle.property_table.specs.declared.table.Slot.{Slot as TheSlot};
-ghost use Rattle.property_table.specs.Slots.{valued, with_place};
 
+use crate::slots::Slots;
 use indexmap::IndexMap;
 use js_value::{NoMemory, Text};
 use std::alloc::Global;
 use std::marker::Model;
 
-/// A property in its slot.
-#[derive(Drop)]
-struct Slot<V> {
-    key: Text,
-    value: V,
-}
-
-/// Properties, each key once, in the order of their creation. None of its calls takes longer where there are more properties.
+/// Properties by their keys, each key once, in the order of their creation. No call takes longer where there are more of them.
 #[derive(Drop)]
 pub struct PropertyTable<V> {
-    slots: Vec<Option<Slot<V>>>,
-    places: IndexMap<Text, usize>,
-    count: usize,
+    map: IndexMap<Text, V>,
+    slots: Slots,
 }
 
 impl<V> Model for PropertyTable<V> {
     ghost use Rattle.std.specs.Prelude.{List, ℕ};
-    ghost use Rattle.js_value.specs.Conversions.{is_same_text};
-    ghost use Rattle.indexmap.specs.IndexMap.{get};
-    ghost use Rattle.property_table.specs.Slots.{present, AreKnown};
+    ghost use Rattle.property_table.specs.Slots.{in_order, AreEntries};
 
     ghost Value = { List (List ℕ × V) };
 
-    ghost view = { λ t. present t.slots.items };
+    ghost view = { λ t. in_order t.map.entries t.slots.indices.items };
 
-    ghost invariant = { λ t. AreKnown t.slots.items (get is_same_text t.places) t.count };
-}
-
-/// The place of a key.
-fn place(places: &IndexMap<Text, usize>, key: &Text) -> Option<usize>
-    ensures { result ≡ get is_same_text places.now key.now }
-{
-    places.get(key).copied()
-}
-
-/// The value of the property in a slot.
-fn value_at<V>(slots: &[Option<Slot<V>>], at: usize) -> Option<&V>
-    requires { at < length slots.now }
-    ensures { (slot : TheSlot V) → slice_get slots.now at ≡ Some (Some slot) → option_copied result ≡ Some slot.value }
-{
-    match &slots[at] {
-        Some(slot) => Some(&slot.value),
-        None => None,
-    }
-}
-
-/// Gives the property in a slot another value.
-fn set_value<V: Drop>(slots: &mut Vec<Option<Slot<V>>>, at: usize, value: V)
-    requires { at < length slots.old.items }
-    ensures { (slot : TheSlot V) → slice_get slots.old.items at ≡ Some (Some slot) → slots.new.items ≡ slice_set slots.old.items at (Some (valued slot value)) }
-{
-    if let Some(slot) = &mut slots[at] {
-        slot.value = value;
-    }
-}
-
-/// Empties a slot.
-fn empty<V: Drop>(slots: &mut Vec<Option<Slot<V>>>, at: usize)
-    requires { at < length slots.old.items }
-    ensures { slots.new.items ≡ slice_set slots.old.items at None }
-{
-    slots[at] = None;
-}
-
-/// Puts a property in a slot behind the others, or changes nothing.
-fn add<V: Drop>(
-    slots: &mut Vec<Option<Slot<V>>>,
-    places: &mut IndexMap<Text, usize>,
-    key: Text,
-    slot: Slot<V>,
-) -> Result<(), NoMemory>
-    ensures slots { OnOk result (slots.new.items ≡ slots.old.items ++ Some slot ∷ []) }
-    ensures places { OnOk result ((q : List ℕ) → get is_same_text places.new q ≡ with_place key (Some (length slots.old.items)) (get is_same_text places.old) q) }
-    ensures few { length slots.old.items < 2 ^ 63 }
-    ensures slots_stay { OnErr result (slots.new.items ≡ slots.old.items) }
-    ensures places_stay { OnErr result ((q : List ℕ) → get is_same_text places.new q ≡ get is_same_text places.old q) }
-{
-    slots.reserve(1)?;
-    places.insert(key, slots.len())?;
-    slots.push(Some(slot))?;
-    Ok(())
+    ghost invariant = { λ t. AreEntries t.map.entries t.slots.indices.items t.slots.slot_of.items };
 }
 
 impl<V: Drop> PropertyTable<V> {
@@ -103,66 +35,79 @@ impl<V: Drop> PropertyTable<V> {
         ensures { result ≡ [] }
     {
         PropertyTable {
-            slots: Vec::new(alloc),
-            places: IndexMap::new(alloc),
-            count: 0,
+            map: IndexMap::new(alloc),
+            slots: Slots::new(alloc),
         }
     }
 
-    /// How many properties there are.
+    /// How many properties there are. No key stands twice.
     pub fn len(&self) -> usize
         ensures len { result ≡ length self.now }
         ensures once { are_distinct self.now ≡ true }
     {
-        self.count
+        self.map.len()
     }
 
     /// The value at a key.
     pub fn get(&self, key: &Text) -> Option<&V>
         ensures value { option_copied result ≡ lookup key.now self.now }
     {
-        match place(&self.places, key) {
-            None => None,
-            Some(at) => value_at(self.slots.as_slice(), at),
+        self.map.get(key)
+    }
+
+    /// Gives a key that is there another value; the place of the key stays. A value for another key comes back.
+    pub fn replace(&mut self, key: &Text, value: V) -> Result<(), V>
+        ensures found { is_ok result ≡ is_some (lookup key.now self.old) }
+        ensures ok { OnOk result (self.new ≡ put_at key.now value self.old) }
+        ensures err { OnErr result (self.new ≡ self.old) }
+        ensures value_returned { IfErr result (λ v. v ≡ value) }
+    {
+        match self.map.get_index_of(key) {
+            Some(n) => {
+                self.map[n] = value;
+                Ok(())
+            }
+            None => Err(value),
         }
     }
 
-    /// Gives a key this value: a key that is there keeps its place among the others, and a new one comes last.
-    /// `NoMemory` comes only where there is no memory for a new key, and then nothing changes.
+    /// Gives a key this value: a key that is there keeps its place, and a new one comes last. Only a new key takes memory.
+    /// Where there is none, the table is as it was.
     pub fn insert(&mut self, alloc: Global, key: &Text, value: V) -> Result<(), NoMemory>
         ensures ok { OnOk result (self.new ≡ put_at key.now value self.old) }
         ensures err { OnErr result (self.new ≡ self.old) }
     {
-        match place(&self.places, key) {
-            Some(at) => {
-                set_value(&mut self.slots, at, value);
-                Ok(())
-            }
-            None => {
-                let slot = Slot {
-                    key: key.copy(alloc)?,
-                    value,
-                };
-                add(&mut self.slots, &mut self.places, key.copy(alloc)?, slot)?;
-                self.count += 1;
-                Ok(())
-            }
+        match self.replace(key, value) {
+            Ok(()) => Ok(()),
+            Err(value) => self.add(key.copy(alloc)?, value),
         }
     }
 
-    /// Takes the property at a key away, and says whether there was one.
+    /// Takes a new key in, which comes last.
+    fn add(&mut self, key: Text, value: V) -> Result<(), NoMemory>
+        requires { lookup key self.old ≡ None }
+        ensures ok { OnOk result (self.new ≡ put_at key value self.old) }
+        ensures err { OnErr result (self.new ≡ self.old) }
+    {
+        self.slots.reserve()?;
+        self.map.insert(key, value)?;
+        self.slots.push();
+        Ok(())
+    }
+
+    /// Takes the property at a key out, and says whether there was one. It takes no memory.
     pub fn remove(&mut self, key: &Text) -> bool
         ensures found { result ≡ is_some (lookup key.now self.old) }
         ensures removed { self.new ≡ without key.now self.old }
     {
-        match place(&self.places, key) {
-            None => false,
-            Some(at) => {
-                self.places.swap_remove(key);
-                empty(&mut self.slots, at);
-                self.count -= 1;
+        match self.map.get_index_of(key) {
+            Some(n) => {
+                self.map.swap_remove_index(n);
+                self.slots.take_out(n);
+                self.slots.close_up();
                 true
             }
+            None => false,
         }
     }
 
@@ -170,23 +115,47 @@ impl<V: Drop> PropertyTable<V> {
     pub fn iter(&self) -> Properties<'_, V>
         ensures { result ≡ self.now }
     {
-        Properties { slots: self.slots.as_slice() }
+        Properties {
+            map: &self.map,
+            slots: self.slots.indices.as_slice(),
+        }
+    }
+
+    /// The property at a position, in the order of creation: at once where no slot is empty, else by a walk, so that `iter` is the
+    /// way to all of them.
+    pub fn at(&self, i: usize) -> (&Text, &V)
+        requires { i < length self.now }
+        ensures { slice_get self.now i ≡ Some (result.0.now, result.1.now) }
+    {
+        if self.slots.indices.len() == self.map.len() {
+            if let Some(n) = self.slots.indices[i] {
+                if let Some(property) = self.map.get_index(n) {
+                    return property;
+                }
+            }
+        }
+        let mut properties = self.iter();
+        for _ in 0..i {
+            properties.next();
+        }
+        properties.next().unwrap()
     }
 }
 
 /// Properties that are still to be shown.
 #[derive(Drop)]
 pub struct Properties<'a, V> {
-    slots: &'a [Option<Slot<V>>],
+    map: &'a IndexMap<Text, V>,
+    slots: &'a [Option<usize>],
 }
 
 impl<'a, V> Model for Properties<'a, V> {
     ghost use Rattle.std.specs.Prelude.{List, ℕ};
-    ghost use Rattle.property_table.specs.Slots.{present};
+    ghost use Rattle.property_table.specs.Slots.{in_order};
 
     ghost Value = { List (List ℕ × V) };
 
-    ghost view = { λ p. present p.slots.now };
+    ghost view = { λ p. in_order p.map.now.entries p.slots.now };
 }
 
 impl<'a, V> Properties<'a, V> {
@@ -197,8 +166,10 @@ impl<'a, V> Properties<'a, V> {
     {
         while let [slot, rest @ ..] = self.slots {
             self.slots = rest;
-            if let Some(slot) = slot {
-                return Some((&slot.key, &slot.value));
+            if let Some(n) = slot {
+                if let Some(property) = self.map.get_index(*n) {
+                    return Some(property);
+                }
             }
         }
         None
