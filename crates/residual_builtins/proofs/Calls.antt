@@ -1,16 +1,13 @@
 -- The rules of the built-ins, and the runs of their calls.
-use Rattle.std.proofs.Common.{◌≡◌, ℕ, zero, suc, ◌+◌, Bool, true, false, List, [], ◌∷◌, refl, ap, sym, ◌∙◌, arith}
-use Rattle.std.specs.Prelude.{codes, is_some, Option, Some, None, Ok}
+use Rattle.std.proofs.Common.{◌≡◌, ℕ, zero, suc, ◌+◌, Bool, true, false, List, [], ◌∷◌, refl, ap, ◌∙◌, arith}
+use Rattle.std.specs.Prelude.{codes, Option, Some, None, Ok}
 use Rattle.std.specs.Option.{option_and_then, option_map}
-use Rattle.std.proofs.lemmas.Bool.{both_ways}
 use Rattle.js_value.specs.Conversions.{to_boolean, to_text}
-use Rattle.js_value.specs.declared.primitive.Primitive.TheVariants as primitive
 use Rattle.js_tree.specs.declared.expression.Expr.{Expr}
-use Rattle.plain_heap.specs.Heap.{Key, Property, Data, Accessor, Heap, ObjectState, Plain, Builtin, is_function, is_function_class, lookup, make_object, object_at, set_object, or_else, depth_of}
+use Rattle.plain_heap.specs.Heap.{Key, Property, Data, Accessor, Heap, ObjectState, Plain, Builtin, is_function, lookup, make_object, object_at, set_object, or_else, depth_of}
 use Rattle.plain_heap.specs.Methods as methods
 use Rattle.plain_heap.specs.Methods.{Descriptor}
-use Rattle.plain_heap.specs.Valid.{is_absent}
-use Rattle.plain_heap.specs.Values.{Value, Prim, Object, Absent, Symbolic, ObjNo, text, truth, undefined, object_or_null, object_or_undefined}
+use Rattle.plain_heap.specs.Values.{Value, Prim, Object, ObjNo, text, truth, undefined, object_or_null, object_or_undefined}
 use Rattle.js_machine.specs.Machine.Events.{Tree}
 use Rattle.js_machine.specs.Machine.Levels.{Setting, class_of}
 use Rattle.js_machine.specs.Machine.ObjectBuiltins as rules
@@ -20,11 +17,11 @@ use Rattle.js_machine.specs.Machine.Objects.{Site}
 use Rattle.js_machine.specs.Machine.Operators as operators
 use Rattle.js_machine.specs.Machine.References.{Context}
 use Rattle.js_machine.specs.Machine.Walks.{World}
-use Rattle.residual_runs.specs.Runs.{State, Runs}
+use Rattle.residual_runs.specs.Runs.{State}
 use Rattle.residual_runs.specs.Statements.{Defines}
 use Rattle.residual_runs.proofs.Runs.{at_once, counted}
 use Rattle.residual_runs.proofs.Statements.{present_value, define_is, builtin_runs}
-use Rattle.residual_builtins.specs.Calls.{FieldIs, IsFunctionField, Spells, OwnField, Alone, HoldsBuiltin, CallsBuiltin, Gives, BuiltinsRun, CallsRun}
+use Rattle.residual_builtins.specs.Calls.{FieldIs, IsFunctionField, Spells, OwnField, Alone, CallsBuiltin, Gives, BuiltinsRun, CallsRun}
 
 -- ---- fields of descriptors
 

@@ -13,14 +13,14 @@ use Rattle.js_value.specs.declared.primitive.Primitive.{Primitive}
 use Rattle.js_value.specs.declared.why.Why.{Why}
 use Rattle.js_tree.specs.declared.expression.Expr.{Expr}
 use Rattle.js_tree.specs.declared.expression.Field.{Field, out-Field}
-use Rattle.js_tree.specs.declared.expression.ExprForm.{ExprForm, out-ExprForm}
+use Rattle.js_tree.specs.declared.expression.ExprForm.{out-ExprForm}
 use Rattle.js_tree.specs.declared.expression.ExprForm.TheOpen.{ExprForm-F, Field-F}
 use Rattle.js_tree.specs.declared.statement.Stmt.{Stmt}
-use Rattle.plain_heap.specs.Heap.{Key, Heap, ObjectState, Plain, Array, cell, data_property, depth_of, is_function, make_object, object_at, or_else, resolve, set_object, Property}
+use Rattle.plain_heap.specs.Heap.{Key, Heap, ObjectState, Plain, Array, cell, data_property, depth_of, is_function, make_object, object_at, or_else, resolve, Property}
 use Rattle.plain_heap.specs.Methods as methods
 use Rattle.plain_heap.specs.Valid.{is_absent}
 use Rattle.plain_heap.specs.Values.{Value, Object, ObjNo, CellNo, number, truth, undefined}
-use Rattle.js_machine.specs.Machine.Events.{Tree, Run, ◌>>=◌, in_turn}
+use Rattle.js_machine.specs.Machine.Events.{Run, ◌>>=◌}
 use Rattle.js_machine.specs.Machine.Expressions as expressions
 use Rattle.js_machine.specs.Machine.Expressions.{Ev, Normal, site, expr_rule, field_rule, elements, is_name}
 use Rattle.js_machine.specs.Machine.Levels.{Setting, ev_of, within}
@@ -31,10 +31,10 @@ use Rattle.js_machine.specs.Machine.References as references
 use Rattle.js_machine.specs.Machine.References.{Context, Reference, NameReference, PropertyReference, InCell, OnGlobal}
 use Rattle.js_machine.specs.Machine.Walks.{World}
 use Rattle.residual_runs.specs.Runs.{State, Runs}
-use Rattle.residual_runs.specs.Statements.{IsExpr, IsStmt, Defines, evaluate, execute}
+use Rattle.residual_runs.specs.Statements.{IsExpr, Defines, evaluate, execute}
 use Rattle.residual_runs.proofs.Runs.{at_once, followed, counted}
 use Rattle.residual_runs.proofs.Statements.{expr_runs, name_target, index_target, evaluated, removed, present_value, define_is}
-use Rattle.residual_builtins.specs.Values.{changed, DeletesIndex, takes_value, parts, fields, FieldMade, ObjectLiterals, elements_from, ElementMade, ArrayLiterals, OperatorsRun, NamesRun, ValuesRun}
+use Rattle.residual_builtins.specs.Values.{changed, DeletesIndex, takes_value, parts, fields, FieldMade, elements_from, ElementMade, ValuesRun}
 
 zero_more : (i : ℕ) → i + 0 ≡ i
 zero_more i = omega arith

@@ -1,9 +1,9 @@
 -- What the calls of built-ins do that a residual makes (15.2.3.5, 15.2.3.6, 15.2.3.10), whatever the places of their nodes.
-use Rattle.std.specs.Prelude.{◌≡◌, ℕ, suc, ◌+◌, ◌&&◌, Bool, true, false, List, [], ◌∷◌, codes, Option, Some, None}
+use Rattle.std.specs.Prelude.{◌≡◌, ℕ, suc, ◌+◌, ◌&&◌, true, false, List, [], ◌∷◌, codes, Option, Some, None}
 use Rattle.std.specs.Option.{option_map}
 use Rattle.js_tree.specs.declared.expression.Expr.{Expr}
 use Rattle.js_tree.specs.declared.expression.ExprForm.TheOpen.{ExprForm-F}
-use Rattle.plain_heap.specs.Heap.{Key, Property, Data, Accessor, Properties, Heap, Environment, ObjectState, Plain, Builtin, cell, is_function, lookup, make_object, object_at, resolve, set_object}
+use Rattle.plain_heap.specs.Heap.{Key, Property, Data, Heap, Environment, ObjectState, Plain, Builtin, cell, is_function, lookup, make_object, object_at, resolve, set_object}
 use Rattle.plain_heap.specs.Methods.{Descriptor, GotValue, get, has_property, is_accessor, is_data}
 use Rattle.plain_heap.specs.Valid.{is_absent}
 use Rattle.plain_heap.specs.Values.{Value, Object, ObjNo, CellNo, text, truth, object_or_null, object_or_undefined}

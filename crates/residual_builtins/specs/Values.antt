@@ -16,10 +16,10 @@ use Rattle.js_tree.specs.declared.expression.ExprForm.{out-ExprForm}
 use Rattle.js_tree.specs.declared.expression.ExprForm.TheOpen.{ExprForm-F, Field-F}
 use Rattle.js_tree.specs.declared.statement.Stmt.{Stmt}
 use Rattle.js_tree.specs.declared.statement.StmtForm.TheOpen.{StmtForm-F}
-use Rattle.plain_heap.specs.Heap.{Key, Heap, ObjectState, Plain, Array, cell, data_property, is_function, make_object, object_at, resolve, set_object}
+use Rattle.plain_heap.specs.Heap.{Key, ObjectState, Plain, Array, cell, data_property, is_function, make_object, object_at, resolve, set_object}
 use Rattle.plain_heap.specs.Methods.{GotValue, checked_key, data_fields, delete, get, has_property, length_key, own_property, value_field}
 use Rattle.plain_heap.specs.Valid.{is_absent}
-use Rattle.plain_heap.specs.Values.{Value, Object, ObjNo, CellNo, number, truth, undefined}
+use Rattle.plain_heap.specs.Values.{Value, Object, ObjNo, CellNo, number, undefined}
 use Rattle.js_machine.specs.Machine.Events.{Run, in_turn}
 use Rattle.js_machine.specs.Machine.Expressions.{Ev, Normal, elements, field_rule, is_name}
 use Rattle.js_machine.specs.Machine.Levels.{Setting, ev_of, within}

@@ -2,6 +2,8 @@
 #![tactic(auto)]
 
 ghost use Rattle.residual_builtins.specs.Calls.{CallsRun};
+ghost use Rattle.residual_builtins.specs.Examples.{Examples};
+ghost use Rattle.residual_builtins.specs.Heaps.{PutsRight};
 ghost use Rattle.residual_builtins.specs.Values.{ValuesRun};
 
 /// Calls of the built-ins that a residual calls, through a temporary that holds them (15.2.3.5, 15.2.3.6, 15.2.3.10): `Object.create`
@@ -18,4 +20,18 @@ pub fn call_law()
 #[tactic(auto, using(crate::proofs::Values::values_run))]
 pub fn value_law()
     ensures { ValuesRun }
+{}
+
+/// What [[Put]] makes of the objects to which a residual assigns (8.12.5, 15.4.5.1): a new property, another value of one that can be
+/// written, a greater length of an array. The prototypes of `{}` and `[]` as they are at the start have nothing that an assignment
+/// could meet.
+#[tactic(auto, using(crate::proofs::Heaps::puts_right))]
+pub fn put_law()
+    ensures { PutsRight }
+{}
+
+/// A heap and trees that meet what the laws above ask.
+#[tactic(auto, using(crate::proofs::Examples::examples))]
+pub fn example_law()
+    ensures { Examples }
 {}

@@ -297,10 +297,10 @@ module _ (set : Setting) (calls : ℕ) (context : Context) (w : World) where
       asked : Runs w (if list_any operators.is_object values then leave HostArgument e.at else expressions.asked_host e.at kind name values) after 0 (Prim answer.value) (record after { calls = called after.calls name values kind (Prim answer.value) (truth false) })
       asked = record { at = λ n k r. rw plain (rw there (rw right (rw normal (ap (λ n. walk w n (called after.calls name values kind (Prim answer.value) (truth false)) (k (Prim answer.value) after.heap)) (zero-add n))))) }
 
-  no_arguments : (d : ℕ) (s : State) → Runs w (each (evaluate set calls context d) []) s 0 [] s
+  pub no_arguments : (d : ℕ) (s : State) → Runs w (each (evaluate set calls context d) []) s 0 [] s
   no_arguments d s = at_once w (λ k r. refl)
 
-  argument : (d : ℕ) (e : Expr) (es : List Expr) (before mid after : State) (i j : ℕ) (v : Value) (vs : List Value) → Runs w (evaluate set calls context d e) before i v mid → Runs w (each (evaluate set calls context d) es) mid j vs after
+  pub argument : (d : ℕ) (e : Expr) (es : List Expr) (before mid after : State) (i j : ℕ) (v : Value) (vs : List Value) → Runs w (evaluate set calls context d e) before i v mid → Runs w (each (evaluate set calls context d) es) mid j vs after
       → Runs w (each (evaluate set calls context d) (e ∷ es)) before (i + j) (v ∷ vs) after
   argument d e es before mid after i j v vs first second =
       followed w {f = λ v. each (evaluate set calls context d) es >>= (λ vs s k r. k (v ∷ vs) s)} first (record { at = λ n k r. second.at n (λ vs s. k (v ∷ vs) s) r })
