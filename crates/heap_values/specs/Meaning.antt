@@ -1,5 +1,5 @@
 -- What values, properties, descriptors and classes of the code are in the definitions.
-use Rattle.std.specs.Prelude.{ℕ, List, [], unwrap_or, slice_get}
+use Rattle.std.specs.Prelude.{ℕ, List, [], slice_index_or}
 use Rattle.std.specs.Option.{option_map}
 use Rattle.plain_heap.specs.Values as values
 use Rattle.plain_heap.specs.Heap as heap
@@ -27,7 +27,7 @@ descriptor_of d =
 
 -- the environment that a number of a scope stands for
 abbrev pub environment_at : List heap.Environment → ℕ → heap.Environment
-environment_at environments s = unwrap_or (slice_get environments s) []
+environment_at environments s = slice_index_or environments s []
 
 abbrev pub class_of : List heap.Environment → Class → heap.Class
 class_of environments class.Plain = heap.Plain
