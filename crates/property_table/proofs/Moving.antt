@@ -1,5 +1,5 @@
 -- Indices that move to the first slots, in their order.
-use Rattle.std.proofs.Common.{◌≡◌, ◌≢◌, ℕ, ◌+◌, ◌<◌, ◌≤◌, List, [], ◌∷◌, ◌++◌, length, get_or, take, drop, refl, sym, ap, ◌∙◌, arith, Some, None, ◌⊎◌, inl, inr, append_assoc, append-nil}
+use Rattle.std.proofs.Common.{◌≡◌, ◌≢◌, ℕ, ◌+◌, ◌<◌, ◌≤◌, List, [], ◌∷◌, ◌++◌, length, get_or, length-append, take, drop, refl, sym, ap, ◌∙◌, arith, Some, None, ◌⊎◌, inl, inr, append_assoc, append-nil}
 use Rattle.std.specs.Prelude.{slice_set, slice_index}
 use Rattle.std.proofs.lemmas.Bool.{cases_eq}
 use Rattle.std.proofs.lemmas.List.{get_or-set_same, get_or-set_other, get_or-take, length-set, length-take, drop_more, drop_all, drop-set-lt, take_more_set}
@@ -17,6 +17,7 @@ pub record AreMoving (before slots : List Slot) (before_of slot_of : List ℕ) (
   pub moved : (n : ℕ) → n < length slot_of → (slice_index slot_of n < to) ⊎ (from ≤ slice_index slot_of n)
   pub known : (i n : ℕ) → (i < to) ⊎ (from ≤ i) → get_or slots i None ≡ Some n → (n < length slot_of) × (slice_index slot_of n ≡ i)
   pub same_named : named (take to slots) ++ named (drop from slots) ≡ named before
+  pub full : length (named (take to slots)) ≡ to
 
 pub start : (slots : List Slot) (slot_of : List ℕ) → ArePlaced slots slot_of → AreMoving slots slots slot_of slot_of 0 0
 start slots slot_of placed = record {
@@ -27,11 +28,12 @@ start slots slot_of placed = record {
   moved = λ n below. inr (omega arith);
   known = λ i n side. placed.known i n;
   same_named = refl;
+  full = refl;
 }
 
 module _ (before slots : List Slot) (before_of slot_of : List ℕ) (to from : ℕ) (moving : AreMoving before slots before_of slot_of to from) where
   -- all have moved
-  pub ended : ArePlaced before before_of → from ≡ length slots → ArePlaced (take to slots) slot_of × (named (take to slots) ≡ named before)
+  pub ended : ArePlaced before before_of → from ≡ length slots → ArePlaced (take to slots) slot_of × (named (take to slots) ≡ named before) × (to ≡ length slot_of)
   ended placed end =
       let same : named (take to slots) ≡ named before =
       sym (append-nil (named (take to slots))) ∙ ap (λ l. named (take to slots) ++ named l) (sym (drop_all from slots (omega arith))) ∙ moving.same_named
@@ -50,6 +52,7 @@ module _ (before slots : List Slot) (before_of slot_of : List ℕ) (to from : �
           count = ap length same ∙ placed.count ∙ sym moving.same_length;
         },
         same,
+        sym moving.full ∙ ap length same ∙ placed.count ∙ sym moving.same_length,
       )
 
   -- an empty slot
@@ -65,6 +68,7 @@ module _ (before slots : List Slot) (before_of slot_of : List ℕ) (to from : �
     ];
     known = λ i n side. moving.known i n (elim side [ inl low ↦ inl low | inr high ↦ inr (omega arith) ]);
     same_named = ap (λ l. named (take to slots) ++ named l) (sym (drop_more slots from None inside ∙ ap (λ s. s ∷ drop (from + 1) slots) empty)) ∙ moving.same_named;
+    full = moving.full;
   }
 
   -- a slot that names an index
@@ -135,4 +139,8 @@ module _ (before slots : List Slot) (before_of slot_of : List ℕ) (to from : �
           ∙ append_assoc (named (take to slots)) (n ∷ []) (named (drop (from + 1) slots))
           ∙ ap (λ l. named (take to slots) ++ named l) (sym (drop_more slots from None inside ∙ ap (λ s. s ∷ drop (from + 1) slots) at))
           ∙ moving.same_named;
+      full =
+          ap (λ l. length (named l)) (take_more_set slots to (Some n) (omega (arith, moving.low)))
+          ∙ ap length (filter_map-append (λ slot. slot) (take to slots) (Some n ∷ []))
+          ∙ length-append (named (take to slots)) (n ∷ []) ∙ ap (λ k. k + 1) moving.full;
     }

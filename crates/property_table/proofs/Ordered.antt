@@ -140,7 +140,7 @@ module _ {V : Type 0} where
             | inr differs ↦ by es m f (sym (ap (λ b. cond b (Some e.1) (map.lookup (is_same_text key) es)) differs) ∙ is) at
           ]
 
-  module _ (es : List (Key × V)) (slots : List Slot) (slot_of : List ℕ) (placed : ArePlaced slots slot_of) (kept : AreEntries es slot_of) where
+  module _ (es : List (Key × V)) (slots : List Slot) (slot_of : List ℕ) (placed : ArePlaced slots slot_of) (kept : AreEntries es slots slot_of) where
     -- one key, one index
     one_index : (m n : ℕ) (e f : Key × V) → slice_get es m ≡ Some e → slice_get es n ≡ Some f → is_same_text e.0 f.0 ≡ true → m ≡ n
     one_index m n e f at_m at_n same =
@@ -384,14 +384,17 @@ module _ {V : Type 0} where
   keys_set (e ∷ es) zero v = refl
   keys_set (e ∷ es) (suc n) v = ap (λ ks. e.0 ∷ ks) (keys_set es n v)
 
-  pub kept_set : (es : List (Key × V)) (slot_of : List ℕ) (n : ℕ) (v : V) → AreEntries es slot_of → AreEntries (set_value_at es n v) slot_of
-  kept_set es slot_of n v kept = record {
+  pub kept_set : (es : List (Key × V)) (slots : List Slot) (slot_of : List ℕ) (n : ℕ) (v : V) → AreEntries es slots slot_of → AreEntries (set_value_at es n v) slots slot_of
+  kept_set es slots slot_of n v kept = record {
     number = kept.number ∙ (sym (length-keys_of es) ∙ ap length (sym (keys_set es n v)) ∙ length-keys_of (set_value_at es n v));
     unique = rw (keys_set es n v) kept.unique;
+    few = kept.few;
   }
 
-  pub kept_new : (es after : List (Key × V)) (slot_of : List ℕ) (e : Key × V) (s : ℕ) → AreEntries es slot_of → after ≡ es ++ e ∷ [] → IsDistinct is_same_text (keys_of after) → AreEntries after (slot_of ++ s ∷ [])
-  kept_new es after slot_of e s kept new unique = record {
+  pub kept_new : (es after : List (Key × V)) (slots : List Slot) (slot_of : List ℕ) (e : Key × V) (slot : Slot) (s : ℕ) → AreEntries es slots slot_of → after ≡ es ++ e ∷ []
+      → IsDistinct is_same_text (keys_of after) → AreEntries after (slots ++ slot ∷ []) (slot_of ++ s ∷ [])
+  kept_new es after slots slot_of e slot s kept new unique = record {
     number = length-append slot_of (s ∷ []) ∙ ap (λ k. k + 1) kept.number ∙ sym (ap length new ∙ length-append es (e ∷ []));
     unique = unique;
+    few = omega (arith, kept.few, length-append slots (slot ∷ []), length-append slot_of (s ∷ []));
   }

@@ -1,9 +1,9 @@
 //! Slots, by which the entries of a map have an order of their own.
 
-ghost use Rattle.std.specs.Prelude.{◌≡◌, ◌++◌, ◌∷◌, [], ◌<◌, ◌-◌, None, Some, length, slice_index, slice_set, take, OnOk};
+ghost use Rattle.std.specs.Prelude.{◌≡◌, ◌++◌, ◌∷◌, [], ◌<◌, ◌≤◌, ◌-◌, None, Some, length, slice_index, slice_set, take, OnOk};
 ghost use Rattle.std.specs.List.{swap_remove};
 ghost use Rattle.std.specs.Vec.{vec_len, vec_capacity};
-ghost use Rattle.property_table.specs.Slots.{ArePlaced, named};
+ghost use Rattle.property_table.specs.Slots.{AreFew, ArePlaced, named};
 
 use js_value::NoMemory;
 use std::alloc::Global;
@@ -70,6 +70,7 @@ impl Slots {
     pub fn close_up(&mut self)
         ensures named { named self.new.indices.items ≡ named self.old.indices.items }
         ensures number { length self.new.slot_of.items ≡ length self.old.slot_of.items }
+        ensures few { AreFew self.new.indices.items self.new.slot_of.items }
     {
         if self.indices.len() / 2 > self.slot_of.len() {
             let count = move_up(&mut self.indices, &mut self.slot_of);
@@ -83,6 +84,7 @@ fn move_up(indices: &mut [Option<usize>], slot_of: &mut [usize]) -> usize
     requires { ArePlaced indices.old slot_of.old }
     ensures placed { ArePlaced (take result indices.new) slot_of.new }
     ensures named { named (take result indices.new) ≡ named indices.old }
+    ensures count { (result ≡ length slot_of.new) × (result ≤ length indices.new) }
 {
     let mut count = 0;
     for slot in 0..indices.len() {

@@ -26,7 +26,7 @@ impl<V> Model for PropertyTable<V> {
 
     ghost view = { λ t. in_order t.map.entries t.slots.indices.items };
 
-    ghost invariant = { λ t. AreEntries t.map.entries t.slots.slot_of.items };
+    ghost invariant = { λ t. AreEntries t.map.entries t.slots.indices.items t.slots.slot_of.items };
 }
 
 impl<V: Drop> PropertyTable<V> {

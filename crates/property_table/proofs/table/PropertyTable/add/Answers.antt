@@ -13,7 +13,7 @@ invariant_of-self-2 g c =
     let key = c.args.key in
     let none = same_lookup es t.slots.indices.items t.slots.slot_of.items t.slots.placed c.self.invariant key ∙ ap (lookup key) c.self.view_is ∙ c.requires in
     let new = c.in_ok-insert.ensures.entries ∙ insert_entry-new is_same_text t.map key c.args.value none in
-    rw (c.push.ensures.slot_of, c.in_ok-reserve.ensures.slot_of) (kept_new es c.insert.new.self.entries t.slots.slot_of.items (key, c.args.value) _ c.self.invariant new c.insert.ensures.unique)
+    rw (c.push.ensures.slot_of, c.push.ensures.indices, c.in_ok-reserve.ensures.slot_of, c.in_ok-reserve.ensures.indices) (kept_new es c.insert.new.self.entries t.slots.indices.items t.slots.slot_of.items (key, c.args.value) _ _ c.self.invariant new c.insert.ensures.unique)
 
 pub returns-clause-ok : goal.returns-clause-ok
 returns-clause-ok g c =

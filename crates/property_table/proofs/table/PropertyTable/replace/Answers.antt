@@ -7,7 +7,7 @@ use Rattle.property_table.proofs.table.PropertyTable.replace.Goals as goal
 pub invariant_of-self : goal.invariant_of-self
 invariant_of-self g c =
     let t = c.self.inside in
-    kept_set t.map.entries t.slots.slot_of.items c.in-Some.n c.args.value c.self.invariant
+    kept_set t.map.entries t.slots.indices.items t.slots.slot_of.items c.in-Some.n c.args.value c.self.invariant
 
 pub returns-in-Some-clause-found : goal.returns-in-Some-clause-found
 returns-in-Some-clause-found g c =
