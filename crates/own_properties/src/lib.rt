@@ -1,0 +1,8 @@
+//! The own properties of an object in code: [[DefineOwnProperty]] of objects and of arrays (8.12.9, 15.4.5.1).
+#![tactic(auto)]
+
+mod answer;
+mod plain;
+
+pub use answer::Defined;
+pub use plain::define;
