@@ -2,7 +2,10 @@
 #![tactic(auto)]
 
 mod answer;
+mod array;
+mod index;
 mod plain;
 
 pub use answer::Defined;
+pub use index::{array_index, length_of};
 pub use plain::define;

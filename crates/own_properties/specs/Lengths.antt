@@ -1,0 +1,18 @@
+-- Elements from an index on, and properties without several keys.
+use Rattle.std.specs.Prelude.{ℕ, nat_le, Bool, false, List, fold, map, unwrap_or}
+use Rattle.std.specs.List.{filter}
+use Rattle.std.specs.Option.{option_map}
+use Rattle.plain_heap.specs.Heap.{Key, without}
+use Rattle.plain_heap.specs.Methods.{array_index}
+
+abbrev pub is_at_least : {A : Type 0} → ℕ → Key × A → Bool
+is_at_least n p = unwrap_or (option_map (λ index. nat_le n index) (array_index p.0)) false
+
+abbrev pub are_at_least : {A : Type 0} → ℕ → List (Key × A) → List (Key × A)
+are_at_least n ps = filter (is_at_least n) ps
+
+abbrev pub keys_of : {A : Type 0} → List (Key × A) → List Key
+keys_of ps = map (λ p. p.0) ps
+
+abbrev pub without_all : {A : Type 0} → List Key → List (Key × A) → List (Key × A)
+without_all keys ps = fold (λ left key. without key left) ps keys
