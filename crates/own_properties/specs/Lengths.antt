@@ -1,9 +1,9 @@
 -- Elements from an index on, and properties without several keys.
-use Rattle.std.specs.Prelude.{ℕ, nat_le, Bool, false, List, fold, map, unwrap_or}
+use Rattle.std.specs.Prelude.{◌≡◌, ℕ, nat_le, Bool, false, List, Option, Some, None, fold, map, unwrap_or}
 use Rattle.std.specs.List.{filter}
 use Rattle.std.specs.Option.{option_map}
-use Rattle.plain_heap.specs.Heap.{Key, without}
-use Rattle.plain_heap.specs.Methods.{array_index}
+use Rattle.plain_heap.specs.Heap.{Key, Data, DataProperty, Property, without}
+use Rattle.plain_heap.specs.Methods.{array_index, length_of}
 
 abbrev pub is_at_least : {A : Type 0} → ℕ → Key × A → Bool
 is_at_least n p = unwrap_or (option_map (λ index. nat_le n index) (array_index p.0)) false
@@ -16,3 +16,12 @@ keys_of ps = map (λ p. p.0) ps
 
 abbrev pub without_all : {A : Type 0} → List Key → List (Key × A) → List (Key × A)
 without_all keys ps = fold (λ left key. without key left) ps keys
+
+-- an array's length, whether it may be changed, and the number that it is; or none (15.4.5.1, step 1)
+pub record IsLength (found : Option Property) (p : DataProperty) (n : ℕ) : Type 0 where
+  pub there : found ≡ Some (Data p)
+  pub number : length_of p.value ≡ Some n
+
+abbrev pub HasLength : Option Property → Option (Bool × ℕ) → Type 0
+HasLength found (Some is) = (p : DataProperty) × (p.writable ≡ is.0) × IsLength found p is.1
+HasLength found None = (p : DataProperty) (n : ℕ) → IsLength found p n → ⊥

@@ -12,7 +12,7 @@ use itoa::Buffer;
 use js_value::{Primitive, Text};
 
 /// The greatest length of an array, 2^32 - 1.
-const GREATEST_LENGTH: u64 = 4_294_967_295;
+pub const GREATEST_LENGTH: u64 = 4_294_967_295;
 
 /// One above the greatest number of the profile.
 const BEYOND: u64 = 9_007_199_254_740_992;

@@ -7,5 +7,6 @@ mod index;
 mod plain;
 
 pub use answer::Defined;
+pub use array::define_in_array;
 pub use index::{array_index, length_of};
 pub use plain::define;

@@ -4,7 +4,7 @@ ghost use Rattle.std.specs.Prelude.{◌≡◌, ◌≢◌, IfOk, OnErr};
 ghost use Rattle.std.specs.Option.{option_copied, option_map};
 ghost use Rattle.plain_heap.specs.Methods as methods;
 ghost use Rattle.heap_values.specs.Meaning.{descriptor_of, property_of};
-ghost use Rattle.own_properties.specs.Defining.{Changes, Says};
+ghost use Rattle.own_properties.specs.Defining.{Changes, Says, answer_of};
 ghost use Rattle.own_properties.specs.declared.answer.Defined.TheVariants as defined;
 
 use crate::Defined;
@@ -13,22 +13,40 @@ use js_value::{NoMemory, Text};
 use property_table::PropertyTable;
 use std::alloc::Global;
 
+/// Why a property isn't changed.
+#[derive(Clone, Copy, Debug)]
+pub(crate) enum Unchanged {
+    Rejected,
+    OfAbsent,
+}
+
+impl Unchanged {
+    pub(crate) fn answer(self) -> Defined
+        ensures { result ≡ answer_of self }
+    {
+        match self {
+            Unchanged::Rejected => Defined::Rejected,
+            Unchanged::OfAbsent => Defined::OfAbsent,
+        }
+    }
+}
+
 /// The property as it is afterwards, or why there is none (steps 3 to 13).
-fn change(
+pub(crate) fn change(
     alloc: Global,
     found: Option<&Property>,
     extensible: bool,
     d: &Descriptor,
-) -> Result<Result<Property, Defined>, NoMemory>
+) -> Result<Result<Property, Unchanged>, NoMemory>
     ensures { IfOk result (Changes (option_map property_of (option_copied found.entry)) extensible (descriptor_of d.now)) }
 {
     match found {
         None if extensible => Ok(Ok(made(alloc, d)?)),
-        None => Ok(Err(Defined::Rejected)),
+        None => Ok(Err(Unchanged::Rejected)),
         Some(p) => match judge(p, d) {
             Verdict::Allowed => Ok(Ok(changed(alloc, p, d)?)),
-            Verdict::Rejected => Ok(Err(Defined::Rejected)),
-            Verdict::OfAbsent => Ok(Err(Defined::OfAbsent)),
+            Verdict::Rejected => Ok(Err(Unchanged::Rejected)),
+            Verdict::OfAbsent => Ok(Err(Unchanged::OfAbsent)),
         },
     }
 }
@@ -51,6 +69,6 @@ pub fn define(
             properties.insert(alloc, key, property)?;
             Ok(Defined::Done)
         }
-        Err(answer) => Ok(answer),
+        Err(unchanged) => Ok(unchanged.answer()),
     }
 }
