@@ -2,7 +2,7 @@
 use Rattle.std.proofs.Common.{◌≡◌, refl, ap, Bool, true, false, List, [], ◌∷◌}
 use Rattle.std.specs.Option.{option_map}
 use Rattle.js_value.specs.Conversions.{is_same_text}
-use Rattle.plain_heap.specs.Heap.{Key, lookup, put_at, without}
+use Rattle.plain_heap.specs.Heap.{Key, lookup, put_at}
 use Rattle.heap_values.specs.Meaning.{property_of}
 use Rattle.heap_values.specs.declared.property.Property.{Property}
 use Rattle.own_properties.specs.Defining.{entries}

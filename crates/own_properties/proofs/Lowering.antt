@@ -1,17 +1,18 @@
 -- What lowering the length of an array and adding an element come to, by what the changes of single properties come to.
-use Rattle.std.proofs.Common.{◌≡◌, ◌∙◌, ◌+◌, refl, sym, ap, ℕ, Bool, true, false, List, nat_eq}
+use Rattle.std.proofs.Common.{◌≡◌, ◌∙◌, refl, sym, ap, ℕ, Bool, true, false, List, nat_eq}
 use Rattle.std.specs.Prelude.{if◌then◌else◌, Option, Some, None, Result, Ok, Err, unwrap_or}
 use Rattle.std.specs.List.{filter}
 use Rattle.std.specs.Option.{option_map}
 use Rattle.js_value.specs.Conversions.{is_same_text}
 use Rattle.plain_heap.specs.Heap as heap
-use Rattle.plain_heap.specs.Heap.{Key, ObjectState, Properties, lookup, put_at}
-use Rattle.plain_heap.specs.Methods.{Descriptor, Defining, Defined, Rejected, Settled, Changed, Refused, OfAbsent, cut_at, define_by, define_plain, is_below, length_key, no_fields, own_property, settled, shorten, stop_at, then_if, with_property}
+use Rattle.plain_heap.specs.Heap.{Key, ObjectState, DataProperty, Data, Accessor, Properties, lookup, put_at}
+use Rattle.plain_heap.specs.Methods.{define_array, define_array_by, define_in_array, length_of, Descriptor, Defining, Defined, Rejected, Settled, Refused, cut_at, define_by, define_plain, is_below, length_key, no_fields, own_property, settled, shorten, stop_at, then_if, with_property}
 use Rattle.plain_heap.specs.Values.{number}
 use Rattle.plain_heap.proofs.Properties.{lookup_put, lookup_put_other}
 use Rattle.heap_values.specs.Meaning.{property_of}
 use Rattle.heap_values.specs.declared.property.Property.{Property}
 use Rattle.own_properties.specs.Defining.{Changes, answer_of, changed_to, entries, settled_as, with_table}
+use Rattle.own_properties.specs.Lengths.{IsLength}
 use Rattle.own_properties.specs.declared.answer.Defined.TheVariants as answer
 use Rattle.own_properties.specs.declared.plain.Unchanged.{Unchanged}
 use Rattle.own_properties.specs.declared.plain.Unchanged.TheVariants as unchanged
@@ -69,7 +70,7 @@ module _ (o : ObjectState) (extensible : Bool) (old new : List (Key × Property)
   shortened_done p changes is =
       by_last (Ok p) changes ∙ by_wanted (nat_eq stop wanted) (with_property length_key (property_of p) (cut_at stop before))
       ∙ ap (λ (ps : Properties). settled_as (if nat_eq stop wanted then answer.Done else answer.Rejected) (record (with_table o extensible new) { properties = ps }))
-          (ap (put_at length_key (property_of p)) (put_below stop (property_of first) (entries old)) ∙ put_twice length_key (property_of first) (property_of p) (filter (is_below stop) (entries old)) ∙ sym is)
+      (ap (put_at length_key (property_of p)) (put_below stop (property_of first) (entries old)) ∙ put_twice length_key (property_of first) (property_of p) (filter (is_below stop) (entries old)) ∙ sym is)
 
   pub shortened_rejected : Changes (Some (property_of first)) extensible (last_fields d stop) (Err unchanged.Rejected)
       → entries new ≡ put_at length_key (property_of first) (filter (is_below stop) (entries old))
@@ -92,8 +93,27 @@ pub raised : (o : ObjectState) (extensible : Bool) (old : List (Key × Property)
     → own_property key (with_table o extensible old) ≡ option_map property_of found → own_property length_key (with_table o extensible old) ≡ option_map property_of last → is_same_text key length_key ≡ false
     → Changes (option_map property_of found) extensible d (Ok element) → Changes (option_map property_of last) extensible next to
     → settled (then_if (define_plain key d (with_table o extensible old)) (λ o. define_plain length_key next o) (λ o. Rejected o))
-      ≡ changed_to length_key to (with_property key (property_of element) (with_table o extensible old))
+    ≡ changed_to length_key to (with_property key (property_of element) (with_table o extensible old))
 raised o extensible old key d next element found last to is there apart first second =
     then_says key d (with_table o extensible old) (option_map property_of found) (Ok element) (λ o. define_plain length_key next o) (λ o. Rejected o) is first
     ∙ plain_says length_key next (with_property key (property_of element) (with_table o extensible old)) (option_map property_of last) to
-        (lookup_put_other key length_key (property_of element) (entries old) apart ∙ there) second
+    (lookup_put_other key length_key (property_of element) (entries old) apart ∙ there) second
+
+-- ---- arrays by their lengths
+
+pub array_has : (key : Key) (d : Descriptor) (o : ObjectState) (p : DataProperty) (n : ℕ) → IsLength (own_property length_key o) p n → define_array key d o ≡ define_in_array key d o p n
+unfolding define_array
+array_has key d o p n is = ap (define_array_by key d o) is.there ∙ ap (λ length. unwrap_or (option_map (define_in_array key d o p) length) (define_plain key d o)) is.number
+
+without_length : (key : Key) (d : Descriptor) (o : ObjectState) (found : Option heap.Property) → ((p : DataProperty) (n : ℕ) → IsLength found p n → ⊥) → define_array_by key d o found ≡ define_plain key d o
+without_length key d o None none = refl
+without_length key d o (Some (Accessor p)) none = refl
+without_length key d o (Some (Data p)) none = by (length_of p.value) refl
+  where
+    by : (length : Option ℕ) → length_of p.value ≡ length → unwrap_or (option_map (define_in_array key d o p) length) (define_plain key d o) ≡ define_plain key d o
+    by None is = refl
+    by (Some n) is = absurd (none p n (record { there = refl; number = is }))
+
+pub array_has_none : (key : Key) (d : Descriptor) (o : ObjectState) → ((p : DataProperty) (n : ℕ) → IsLength (own_property length_key o) p n → ⊥) → define_array key d o ≡ define_plain key d o
+unfolding define_array
+array_has_none key d o none = without_length key d o (own_property length_key o) none

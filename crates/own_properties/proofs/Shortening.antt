@@ -1,5 +1,5 @@
 -- Taking elements away, and setting the length before and afterwards.
-use Rattle.std.proofs.Common.{◌≡◌, ◌∙◌, ◌+◌, refl, sym, ap, subst, ℕ, Bool, true, false, not, List, [], ◌∷◌, map, max, fold, nat_eq, nat_le, nat_lt, arith}
+use Rattle.std.proofs.Common.{◌≡◌, ◌∙◌, ◌+◌, refl, sym, ap, subst, ℕ, Bool, true, false, not, List, [], ◌∷◌, max, nat_eq, nat_le, nat_lt, arith}
 use Rattle.std.specs.Prelude.{if◌then◌else◌, ◌&&◌, ◌||◌, Option, Some, None, unwrap_or, is_some}
 use Rattle.std.specs.List.{filter, list_any}
 use Rattle.std.specs.Option.{option_map}
@@ -11,7 +11,6 @@ use Rattle.plain_heap.specs.Heap.{Key, ObjectState, Properties, is_configurable,
 use Rattle.plain_heap.specs.Methods.{array_index, above_fixed, is_below, length_key, stop_at, Defining, Defined, Rejected, BadLength, IfSame, Settled, Changed, Refused, NotALength, OfAbsent, settled, settled_if, is_same_known, then_if}
 use Rattle.plain_heap.specs.Valid.{are_distinct}
 use Rattle.plain_heap.proofs.Properties.{has, same_sym}
-use Rattle.heap_values.specs.Meaning.{property_of}
 use Rattle.heap_values.specs.declared.property.Property.{Property}
 use Rattle.own_properties.specs.Defining.{entry_of, entries}
 use Rattle.own_properties.specs.Lengths.{is_at_least, are_at_least, keys_of, without_all}

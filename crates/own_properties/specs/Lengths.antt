@@ -2,8 +2,8 @@
 use Rattle.std.specs.Prelude.{◌≡◌, ℕ, nat_le, Bool, false, List, Option, Some, None, fold, map, unwrap_or}
 use Rattle.std.specs.List.{filter}
 use Rattle.std.specs.Option.{option_map}
-use Rattle.plain_heap.specs.Heap.{Key, Data, DataProperty, Property, without}
-use Rattle.plain_heap.specs.Methods.{array_index, length_of}
+use Rattle.plain_heap.specs.Heap.{Key, ObjectState, Data, DataProperty, Property, without}
+use Rattle.plain_heap.specs.Methods.{Defining, Descriptor, array_index, define_element, define_plain, length_of}
 
 abbrev pub is_at_least : {A : Type 0} → ℕ → Key × A → Bool
 is_at_least n p = unwrap_or (option_map (λ index. nat_le n index) (array_index p.0)) false
@@ -25,3 +25,7 @@ pub record IsLength (found : Option Property) (p : DataProperty) (n : ℕ) : Typ
 abbrev pub HasLength : Option Property → Option (Bool × ℕ) → Type 0
 HasLength found (Some is) = (p : DataProperty) × (p.writable ≡ is.0) × IsLength found p is.1
 HasLength found None = (p : DataProperty) (n : ℕ) → IsLength found p n → ⊥
+
+-- an array's other properties, where it has this length (steps 4 and 5)
+abbrev pub defining_other : Key → Descriptor → ObjectState → DataProperty → ℕ → Defining
+defining_other key d o p old = unwrap_or (option_map (define_element key d o p old) (array_index key)) (define_plain key d o)

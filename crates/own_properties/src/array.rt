@@ -11,10 +11,10 @@ ghost use Rattle.std.specs.Option.{option_copied, option_map};
 ghost use Rattle.heap_values.specs.Meaning.{descriptor_of, property_of, value_of};
 ghost use Rattle.own_properties.specs.Defining.{Says, entries, settled_as, with_table};
 ghost use Rattle.own_properties.specs.declared.answer.Defined.TheVariants as defined;
-ghost use Rattle.own_properties.specs.Lengths.{HasLength, are_at_least, keys_of, without_all};
+ghost use Rattle.own_properties.specs.Lengths.{HasLength, defining_other, are_at_least, keys_of, without_all};
 
-use crate::index::{GREATEST_LENGTH, array_index, length_of};
 use crate::Defined;
+use crate::index::{GREATEST_LENGTH, array_index, length_of};
 use crate::plain::{Unchanged, change, define};
 use heap_values::{Descriptor, Property, Value};
 use js_value::{NoMemory, Primitive, Text};
@@ -141,7 +141,8 @@ fn cut(
     ensures ok { OnOk result (entries properties.new ≡ put_at length_key (property_of p) (filter (methods.is_below stop) (entries properties.old))) }
     ensures err { OnErr result (properties.new ≡ properties.old) }
 {
-    let _once = properties.len();
+    // It also tells that no key stands twice.
+    let _count = properties.len();
     let keys = keys_from(alloc, stop, properties)?;
     remove_all(properties, keys.as_slice());
     set(properties, length, p);
@@ -153,7 +154,11 @@ fn ended(stop: u64, wanted: u64) -> Defined
     ensures is { result ≡ (if nat_eq stop wanted then defined.Done else defined.Rejected) }
     ensures done_or_not { result ≢ defined.Done → result ≢ defined.Rejected → ⊥ }
 {
-    if stop == wanted { Defined::Done } else { Defined::Rejected }
+    if stop == wanted {
+        Defined::Done
+    } else {
+        Defined::Rejected
+    }
 }
 
 /// The steps behind the first change of the length, which was this one (3.l to 3.n).
@@ -203,7 +208,7 @@ fn shorten(
     requires small { wanted ≤ GREATEST_LENGTH }
     ensures answer { IfOk result (λ answer.
         Says (λ o. then_if (methods.define_plain length_key (record (descriptor_of d.now) { writable = Some true }) o) (methods.shorten wanted (descriptor_of d.now)) (λ o. methods.Rejected o))
-            extensible properties.old properties.new answer) }
+        extensible properties.old properties.new answer) }
     ensures unchanged { IfOk result (λ answer. answer ≢ defined.Done → answer ≢ defined.Rejected → properties.new ≡ properties.old) }
     ensures err { OnErr result (properties.new ≡ properties.old) }
 {
@@ -230,7 +235,7 @@ fn append(
     requires small { index < GREATEST_LENGTH }
     ensures answer { IfOk result (λ answer.
         Says (λ o. then_if (methods.define_plain key.now (descriptor_of d.now) o) (λ o. methods.define_plain length_key (methods.value_field (number_value (index + 1))) o) (λ o. methods.Rejected o))
-            extensible properties.old properties.new answer) }
+        extensible properties.old properties.new answer) }
     ensures unchanged { IfOk result (λ answer. answer ≢ defined.Done → answer ≢ defined.Rejected → properties.new ≡ properties.old) }
     ensures err { OnErr result (properties.new ≡ properties.old) }
 {
@@ -253,15 +258,26 @@ fn append(
     }
 }
 
+/// The key of an array's length.
+fn length_text(alloc: Global) -> Result<Text, NoMemory>
+    ensures { IfOk result (λ t. t ≡ length_key) }
+{
+    Ok(Text::from_vec(Vec::from_slice(alloc, &[0x6C, 0x65, 0x6E, 0x67, 0x74, 0x68])?))
+}
+
 /// The length of an array that has one: a data property, whether it is writable, and the number that it is (step 1).
 fn length_in(properties: &PropertyTable<Property>, length: &Text) -> Option<(bool, u64)>
     requires { length.now ≡ length_key }
     ensures { HasLength (option_map property_of (lookup length_key properties.now)) result }
 {
     match properties.get(length) {
-        Some(Property::Data {
-            value, writable, ..
-        }) => Some((*writable, length_of(value)?)),
+        Some(
+            Property::Data {
+                value,
+                writable,
+                ..
+            },
+        ) => Some((*writable, length_of(value)?)),
         _ => None,
     }
 }
@@ -298,6 +314,37 @@ fn set_length(
     shorten(alloc, properties, extensible, length, d, wanted)
 }
 
+/// [[DefineOwnProperty]] of an array that has this length, of a property other than it (steps 4 and 5).
+fn define_other(
+    alloc: Global,
+    properties: &mut PropertyTable<Property>,
+    extensible: bool,
+    length: &Text,
+    key: &Text,
+    d: &Descriptor,
+    writable: bool,
+    old: u64,
+) -> Result<Defined, NoMemory>
+    requires named { length.now ≡ length_key }
+    requires there { is_some (lookup length_key properties.old) ≡ true }
+    requires apart { is_same_text key.now length_key ≡ false }
+    ensures answer { IfOk result (λ answer. (p : DataProperty) → p.writable ≡ writable →
+        Says (λ o. defining_other key.now (descriptor_of d.now) o p old) extensible properties.old properties.new answer) }
+    ensures unchanged { IfOk result (λ answer. answer ≢ defined.Done → answer ≢ defined.Rejected → properties.new ≡ properties.old) }
+    ensures err { OnErr result (properties.new ≡ properties.old) }
+{
+    let Some(index) = array_index(key) else {
+        return define(alloc, properties, extensible, key, d);
+    };
+    if index < old {
+        return define(alloc, properties, extensible, key, d);
+    }
+    if !writable {
+        return Ok(Defined::Rejected);
+    }
+    append(alloc, properties, extensible, length, key, d, index)
+}
+
 /// [[DefineOwnProperty]] of an array (15.4.5.1). Where it is neither done nor rejected nothing changes; a length that is lowered and
 /// rejected at an element that can't be deleted keeps what was deleted.
 #[tactic(auto, unfolding(plain_heap::specs::Methods::define_array))]
@@ -312,17 +359,14 @@ pub fn define_in_array(
     ensures unchanged { IfOk result (λ answer. answer ≢ defined.Done → answer ≢ defined.Rejected → properties.new ≡ properties.old) }
     ensures err { OnErr result (properties.new ≡ properties.old) }
 {
-    let length = Text::from_str(alloc, "length")?;
+    let length = length_text(alloc)?;
     let Some((writable, old)) = length_in(properties, &length) else {
         return define(alloc, properties, extensible, key, d);
     };
     if *key == length {
         return set_length(alloc, properties, extensible, &length, d, writable, old);
     }
-    match array_index(key) {
-        Some(index) if index < old => define(alloc, properties, extensible, key, d),
-        Some(_) if !writable => Ok(Defined::Rejected),
-        Some(index) => append(alloc, properties, extensible, &length, key, d, index),
-        None => define(alloc, properties, extensible, key, d),
-    }
+    define_other(
+        alloc, properties, extensible, &length, key, d, writable, old,
+    )
 }

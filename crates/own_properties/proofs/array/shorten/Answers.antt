@@ -1,4 +1,4 @@
-use Rattle.std.proofs.Common.{◌≡◌, ◌∙◌, sym, ap, subst}
+use Rattle.std.proofs.Common.{◌∙◌, sym, ap, subst}
 use Rattle.std.specs.Prelude.{Some, Ok, Err, true}
 use Rattle.std.specs.Option.{option_copied, option_map}
 use Rattle.std.proofs.lemmas.Result.{IfOk-weaker}
@@ -15,9 +15,9 @@ returns-in-Ok-clause-answer c =
     let asked = record (descriptor_of c.args.d.now) { writable = Some true } in
     let changes = subst (λ to. Changes found c.args.extensible asked to) c.in-Ok.is (subst (λ d. Changes found c.args.extensible d c.in_ok-first.field-0) c.in_ok-open.ensures c.in_ok-first.ensures) in
     IfOk-weaker c.shorten_from.result _ _ (λ answer says o.
-        then_says length_key asked (with_table o c.args.extensible c.args.properties.now) found (Ok c.in-Ok.first) (methods.shorten c.args.wanted (descriptor_of c.args.d.now)) (λ o. methods.Rejected o)
-            (length_found c.args.length.now o c.args.extensible c.args.properties.now (option_copied c.get.result) c.requires.named c.get.ensures.value) changes
-        ∙ says o) c.shorten_from.ensures.answer
+    then_says length_key asked (with_table o c.args.extensible c.args.properties.now) found (Ok c.in-Ok.first) (methods.shorten c.args.wanted (descriptor_of c.args.d.now)) (λ o. methods.Rejected o)
+    (length_found c.args.length.now o c.args.extensible c.args.properties.now (option_copied c.get.result) c.requires.named c.get.ensures.value) changes
+    ∙ says o) c.shorten_from.ensures.answer
 
 pub returns-clause-answer : goal.returns-clause-answer
 returns-clause-answer c = λ o.
@@ -25,6 +25,6 @@ returns-clause-answer c = λ o.
     let asked = record (descriptor_of c.args.d.now) { writable = Some true } in
     let changes = subst (λ to. Changes found c.args.extensible asked to) c.in-Err.is (subst (λ d. Changes found c.args.extensible d c.in_ok-first.field-0) c.in_ok-open.ensures c.in_ok-first.ensures) in
     then_says length_key asked (with_table o c.args.extensible c.args.properties.now) found (Err c.in-Err.unchanged) (methods.shorten c.args.wanted (descriptor_of c.args.d.now)) (λ o. methods.Rejected o)
-        (length_found c.args.length.now o c.args.extensible c.args.properties.now (option_copied c.get.result) c.requires.named c.get.ensures.value) changes
+    (length_found c.args.length.now o c.args.extensible c.args.properties.now (option_copied c.get.result) c.requires.named c.get.ensures.value) changes
     ∙ stays_so c.in-Err.unchanged (with_table o c.args.extensible c.args.properties.now) (methods.shorten c.args.wanted (descriptor_of c.args.d.now))
     ∙ ap (λ answer. settled_as answer (with_table o c.args.extensible c.args.properties.now)) (sym c.answer.ensures)

@@ -1,7 +1,6 @@
-use Rattle.std.proofs.Common.{◌≡◌, ◌∙◌, refl, sym, ap}
+use Rattle.std.proofs.Common.{◌∙◌, refl, sym, ap}
 use Rattle.std.specs.Option.{option_map}
-use Rattle.std.specs.Prelude.{Ok, Err}
-use Rattle.plain_heap.specs.Heap.{Properties, put_at, lookup}
+use Rattle.plain_heap.specs.Heap.{Properties}
 use Rattle.plain_heap.specs.Methods.{Changed, settled, define_by, define_plain}
 use Rattle.heap_values.specs.Meaning.{descriptor_of, property_of}
 use Rattle.own_properties.specs.Defining.{changed_to, settled_as, entries, with_table}
