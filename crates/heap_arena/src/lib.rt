@@ -3,5 +3,11 @@
 
 mod arena;
 mod environment;
+mod found;
+mod heap;
+mod object;
 
 pub use environment::{CellNos, Scope, Scopes};
+pub use found::{Found, Got, Putting};
+pub use heap::Heap;
+pub use object::Object;
