@@ -1,8 +1,9 @@
 -- The runs of the frame.
-use Rattle.std.proofs.Common.{◌≡◌, ℕ, suc, ◌+◌, Bool, true, false, List, [], ◌∷◌, refl, ap, subst, sym, ◌∙◌, arith, length}
+use Rattle.std.proofs.Common.{◌++◌, append_assoc, append-nil, map, ◌≡◌, ℕ, suc, ◌+◌, Bool, true, false, List, [], ◌∷◌, refl, ap, subst, sym, ◌∙◌, arith, length}
 use Rattle.std.specs.Prelude.{if◌then◌else◌, codes, slice_get, Ok, Some, None}
 use Rattle.js_value.specs.declared.place.FuncNo.{FuncNo}
 use Rattle.js_value.specs.declared.place.Place.{Place}
+use Rattle.js_tree.specs.Mentions.{Names, hoisted_functions}
 use Rattle.js_tree.specs.declared.expression.Expr.{Expr}
 use Rattle.js_tree.specs.declared.expression.ExprForm.{ExprForm}
 use Rattle.js_tree.specs.declared.expression.ExprForm.TheOpen.{ExprForm-F}
@@ -11,11 +12,11 @@ use Rattle.js_tree.specs.declared.statement.Declarator.{Declarator}
 use Rattle.js_tree.specs.declared.statement.Func.{Func}
 use Rattle.js_tree.specs.declared.statement.Stmt.{Stmt}
 use Rattle.js_tree.specs.declared.statement.StmtForm.TheOpen.{StmtForm-F}
-use Rattle.plain_heap.specs.Heap.{Key, Environment, Heap, ObjectState, add_object, resolve, set_object}
+use Rattle.plain_heap.specs.Heap.{Key, Environment, Heap, ObjectState, add_object, new_cell, resolve, set_object}
 use Rattle.plain_heap.specs.Methods as methods
-use Rattle.plain_heap.specs.Values.{Value, Object, ObjNo}
+use Rattle.plain_heap.specs.Values.{Value, Object, ObjNo, undefined}
 use Rattle.js_machine.specs.Machine.Creating as creating
-use Rattle.js_machine.specs.Machine.Creating.{function_expression, function_state, is_strict_in, name_of, named, parameters_of, prototype_state}
+use Rattle.js_machine.specs.Machine.Creating.{declared_names, enter_function, function_expression, function_state, is_strict_in, name_of, named, parameters_of, prototype_state}
 use Rattle.js_machine.specs.Machine.Events.{Tree, Step, Run, ◌>>=◌, choose, each}
 use Rattle.js_machine.specs.Machine.Expressions as expressions
 use Rattle.js_machine.specs.Machine.Expressions.{Completion, Ev, Normal, site, expr_rule}
@@ -34,7 +35,7 @@ use Rattle.residual_runs.specs.Runs.{State, Runs, Throws}
 use Rattle.residual_runs.specs.Statements.{IsExpr, IsStmt, Puts, evaluate, execute}
 use Rattle.residual_runs.proofs.Runs.{at_once, followed, counted, throws_first, throws_then, throws_behind_step}
 use Rattle.residual_runs.proofs.Statements.{argument, expr_runs, function_runs, member_runs, member_target, no_arguments, property_read, put_is, stmt_runs, stmt_throws, this_runs}
-use Rattle.residual_frames.specs.Frames.{CallsFunction, FindsCall, IsPath, Leads, nodes_of, steps_of, declaring, parts, body_context, made, entered, FramesRun}
+use Rattle.residual_frames.specs.Frames.{in_new_cells, with_cells, CallsFunction, FindsCall, IsPath, Leads, nodes_of, steps_of, declaring, parts, body_context, made, entered, FramesRun}
 
 zero_more : (i : ℕ) → i + 0 ≡ i
 zero_more i = omega arith
@@ -216,6 +217,44 @@ function_is : (functions : List Func) (f : FuncNo) (names : Environment) (strict
 unfolding function_expression creating.function creating.make_function
 function_is functions f names strict h nameless = ap (λ name. named functions f names strict name h) nameless
 
+-- ---- variables
+
+one_more : {A : Type 0} (xs : List A) (x : A) → length (xs ++ x ∷ []) ≡ length xs + 1
+one_more [] x = refl
+one_more (y ∷ xs) x = ap suc (one_more xs x) ∙ later (length xs)
+  where
+    later : (n : ℕ) → suc (n + 1) ≡ suc n + 1
+    later n = omega arith
+
+cells_made : (names : Names) (h : Heap) → creating.each creating.declare names h ≡ (in_new_cells names (length h.cells), with_cells names h)
+cells_made [] h = ap (λ cells. ([], record h { cells = cells })) (sym (append-nil h.cells))
+cells_made (name ∷ names) h =
+    ap (λ made. creating.behind made (λ ys. creating.give ((name, length h.cells) ∷ ys))) (cells_made names (new_cell undefined h))
+    ∙ ap (λ c. ((name, length h.cells) ∷ in_new_cells names c, with_cells names (new_cell undefined h))) (one_more h.cells undefined)
+    ∙ ap (λ cells. ((name, length h.cells) ∷ in_new_cells names (length h.cells + 1), record h { cells = cells })) (append_assoc h.cells (undefined ∷ []) (map (λ name. undefined) names))
+
+variables_are : (functions : List Func) (code : Func) (names : Environment) (strict : Bool) (h : Heap) → code.params ≡ [] → hoisted_functions code.body ≡ []
+    → enter_function functions code names strict [] h ≡ (in_new_cells (declared_names functions code) (length h.cells) ++ names, with_cells (declared_names functions code) h)
+unfolding enter_function
+variables_are functions code names strict h no_parameters no_functions =
+    ap (λ made. creating.behind made rest) (cells_made (declared_names functions code) h)
+    ∙ ap (λ ps. creating.behind (creating.bind_parameters around [] 0 ps cells) (λ _. behind_parameters (hoisted_functions code.body))) no_parameters
+    ∙ ap (λ fs. behind_parameters fs cells) no_functions
+  where
+    cells : Heap
+    cells = with_cells (declared_names functions code) h
+
+    around : Environment
+    around = in_new_cells (declared_names functions code) (length h.cells) ++ names
+
+    behind_parameters : List FuncNo → Heap → Environment × Heap
+    behind_parameters fs h = creating.behind (creating.in_turn (creating.bind_function functions around strict) fs h) (λ _. creating.give around)
+
+    rest : Environment → Heap → Environment × Heap
+    rest own h =
+        creating.behind (creating.bind_parameters (own ++ names) [] 0 code.params h)
+        (λ _ h. creating.behind (creating.in_turn (creating.bind_function functions (own ++ names) strict) (hoisted_functions code.body) h) (λ _. creating.give (own ++ names)))
+
 pub frames_run : FramesRun
 frames_run = record {
   vars = λ set calls context w d. record {
@@ -227,4 +266,5 @@ frames_run = record {
   paths = λ set calls context w d. record { path = path_runs set calls context w d };
   wrapper = λ set calls context w d. record { runs = wrapper_runs set calls context w d; throws = wrapper_throws set calls context w d };
   function = function_is;
+  variables = variables_are;
 }

@@ -1,7 +1,8 @@
 -- What the frame of a residual does, whatever the places of its nodes.
-use Rattle.std.specs.Prelude.{◌≡◌, ℕ, suc, ◌+◌, Bool, true, false, List, [], ◌∷◌, codes, length, slice_get, Ok, Some, None}
+use Rattle.std.specs.Prelude.{◌≡◌, ℕ, suc, ◌+◌, Bool, true, false, List, [], ◌∷◌, ◌++◌, codes, length, map, slice_get, Ok, Some, None}
 use Rattle.js_value.specs.declared.place.FuncNo.{FuncNo}
 use Rattle.js_value.specs.declared.place.Place.{Place}
+use Rattle.js_tree.specs.Mentions.{Names, hoisted_functions}
 use Rattle.js_tree.specs.declared.expression.Expr.{Expr}
 use Rattle.js_tree.specs.declared.expression.ExprForm.TheOpen.{ExprForm-F}
 use Rattle.js_tree.specs.declared.statement.Declarator.{Declarator}
@@ -10,8 +11,8 @@ use Rattle.js_tree.specs.declared.statement.Stmt.{Stmt}
 use Rattle.js_tree.specs.declared.statement.StmtForm.TheOpen.{StmtForm-F}
 use Rattle.plain_heap.specs.Heap.{Key, Environment, Function, Builtin, Heap, ObjectState, add_object, is_function, resolve, set_object}
 use Rattle.plain_heap.specs.Methods.{GotValue, checked_key, get, has_property}
-use Rattle.plain_heap.specs.Values.{Value, Object, ObjNo}
-use Rattle.js_machine.specs.Machine.Creating.{enter_function, function_expression, function_state, is_strict_in, name_of, parameters_of, prototype_state}
+use Rattle.plain_heap.specs.Values.{CellNo, Value, Object, ObjNo, undefined}
+use Rattle.js_machine.specs.Machine.Creating.{declared_names, enter_function, function_expression, function_state, is_strict_in, name_of, parameters_of, prototype_state}
 use Rattle.js_machine.specs.Machine.Events.{Run}
 use Rattle.js_machine.specs.Machine.Expressions.{Completion, Ev, Normal}
 use Rattle.js_machine.specs.Machine.Levels.{Setting, class_of, ev_of, within}
@@ -70,6 +71,15 @@ abbrev pub steps_of : List Key → ℕ
 steps_of [] = 1
 steps_of (key ∷ path) = 1 + steps_of path
 
+-- ---- the variables of the wrapper's code: each has a new cell, which holds undefined
+
+abbrev pub in_new_cells : Names → CellNo → Environment
+in_new_cells [] c = []
+in_new_cells (name ∷ names) c = (name, c) ∷ in_new_cells names (c + 1)
+
+abbrev pub with_cells : Names → Heap → Heap
+with_cells names h = record h { cells = h.cells ++ map (λ name. undefined) names }
+
 -- ---- the law
 
 module _ (set : Setting) (calls : ℕ) (context : Context) (w : World) (d : ℕ) where
@@ -127,3 +137,6 @@ pub record FramesRun : Type 0 where
   -- a function without a name is two objects, and has the cells of the names around it
   pub function : (functions : List Func) (f : FuncNo) (names : Environment) (strict : Bool) (h : Heap) → let code = slice_get functions f.0 in let o = length h.objects in name_of code ≡ None
       → function_expression functions f names strict h ≡ (o, add_object (prototype_state o) (add_object (function_state f names (is_strict_in strict code) (parameters_of code) (o + 1)) h))
+  -- code without parameters and function declarations binds its variables, each once, to new cells
+  pub variables : (functions : List Func) (code : Func) (names : Environment) (strict : Bool) (h : Heap) → code.params ≡ [] → hoisted_functions code.body ≡ []
+      → enter_function functions code names strict [] h ≡ (in_new_cells (declared_names functions code) (length h.cells) ++ names, with_cells (declared_names functions code) h)
