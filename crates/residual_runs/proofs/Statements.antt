@@ -79,7 +79,7 @@ define_is site o key d throws h after p k r =
     (numbered site.at (objects.is_array_state (Some p.before) && is_same_text key methods.length_key) d p.length h (λ d s. objects.define_at site o key d throws (Some p.before) s k r) r
     ∙ rw p.defined refl))
 
-put_is : (site : Site) (o : ObjNo) (key : Key) (v : Value) (h : Heap) (after : ObjectState) → Puts h o key v after
+pub put_is : (site : Site) (o : ObjNo) (key : Key) (v : Value) (h : Heap) (after : ObjectState) → Puts h o key v after
     → (k : Unit {0} → Heap → Tree) (r : Value → Heap → Tree) → objects.put site o key v false h k r ≡ k tt (set_object o after h)
 unfolding objects.put
 put_is site o key v h after p k r = rw (p.defines.named, p.put) (define_is site o key p.descriptor false h after p.defines k r)
@@ -136,7 +136,7 @@ module _ (set : Setting) (calls : ℕ) (context : Context) (w : World) where
   unfolding expr_rule expressions.name_rule references.resolve_name references.get_value
   temporary_runs d e name c v s is bound holds = expr_runs d e (ExprForm-F.Name name) is (at_once w (λ k r. rw (bound, holds) refl))
 
-  function_runs : (d : ℕ) (e : Expr) (f : FuncNo) (s : State) → IsExpr e (ExprForm-F.Func f)
+  pub function_runs : (d : ℕ) (e : Expr) (f : FuncNo) (s : State) → IsExpr e (ExprForm-F.Func f)
       → let made = function_expression set.functions f context.environment context.strict s.heap in
       Runs w (evaluate set calls context (suc d) e) s 1 (Object made.0) (record s { heap = made.1 })
   unfolding expr_rule expressions.function_rule
@@ -243,7 +243,7 @@ module _ (set : Setting) (calls : ℕ) (context : Context) (w : World) where
   unfolding references.get_value objects.get_of objects.get
   property_read at o key v s named got known = at_once w (λ k r. rw (named, got) (present_value at.at v known s.heap k r))
 
-  member_runs : (d : ℕ) (e base : Expr) (key : Key) (o : ObjNo) (v : Value) (before after : State) (i : ℕ) → IsExpr e (ExprForm-F.Member base key) → Runs w (evaluate set calls context d base) before i (Object o) after
+  pub member_runs : (d : ℕ) (e base : Expr) (key : Key) (o : ObjNo) (v : Value) (before after : State) (i : ℕ) → IsExpr e (ExprForm-F.Member base key) → Runs w (evaluate set calls context d base) before i (Object o) after
       → methods.checked_key key ≡ Ok key → methods.get after.heap o key ≡ methods.GotValue v → is_absent v ≡ false → Runs w (evaluate set calls context (suc d) e) before (1 + i) v after
   unfolding expr_rule expressions.member_rule expressions.member_reference
   member_runs d e base key o v before after i is runs named got known =
