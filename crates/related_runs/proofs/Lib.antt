@@ -10,3 +10,4 @@ pub mod Functions
 pub mod Arrays
 pub mod Builtins
 pub mod Realm
+pub mod Levels
