@@ -11,3 +11,4 @@ pub mod Arrays
 pub mod Builtins
 pub mod Realm
 pub mod Levels
+pub mod Itself
