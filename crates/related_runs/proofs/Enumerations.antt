@@ -54,4 +54,3 @@ module _ (x : Correspondence) where
   pub enumerated_same : (h g : Heap) → SameHeaps x h g → {o q : ObjNo} → x.Objects o q → S.enumerated o h ≡ S.enumerated q g
   unfolding S.enumerated
   enumerated_same h g same {o = o} {q = q} r = names_same (depth_at h (Some o)) h g same [] (just r) ∙ ap (λ n. S.names_along n g [] (Some q)) (depth_same x h g same (just r))
-

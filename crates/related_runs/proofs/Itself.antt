@@ -26,13 +26,10 @@ use Rattle.js_machine.specs.Machine.Creating as C
 use Rattle.related_states.specs.Related.{Correspondence, Names, are_named, BothOption, nothing, just, BothEach, none, also}
 use Rattle.related_runs.proofs.Codes.{Code, SameForm, both_this, both_name, both_literal, both_array, both_object, both_function, both_member, both_index, both_call, both_new, both_unary, both_binary, both_logic, both_conditional, both_assign, both_step, both_comma, both_input, both_host, SameFieldOf, same_value_field, same_getter_field, same_setter_field, SameInner, SameOwn, no_own, own, own_scope, SameFunc, inside}
 use Rattle.related_runs.proofs.Codes.{SameDeclarator, SameStart, start_nothing, start_expr, start_var, SameTarget, target_expr, target_var, same_clause, SameCases, SameCatch, SameFinally, SameStmtForm, both_var, both_declared, both_eval, both_block, both_empty, both_if, both_do, both_while, both_for, both_for_in, both_continue, both_break, both_return, both_switch, both_throw, both_try}
+use Rattle.related_runs.specs.Itself.{Itself, Diagonal, no_more, one_more}
 use Rattle.related_runs.proofs.Functions.{SameGlobal}
 use Rattle.related_runs.proofs.Levels.{SameScript}
 use Rattle.js_tree.specs.declared.statement.Script.{Script}
-
-pub data Diagonal : Names → Type 0 where
-  no_more : Diagonal []
-  one_more : {ns : Names} (n : List ℕ) → Diagonal ns → Diagonal ((n, n) ∷ ns)
 
 twice : (p b : Bool) → b ≡ true → cond (p || p) (p && p) b ≡ true
 twice true b e = refl
@@ -61,10 +58,6 @@ self_each h (y ∷ ys) = also (h y) (self_each h ys)
 self_option : {A : Type 0} {Q : A → A → Type 0} → ((a : A) → Q a a) → (o : Option A) → BothOption Q o o
 self_option h None = nothing
 self_option h (Some a) = just (h a)
-
-pub record Itself {A : Type 0} (ns : Names) (a b : A) : Type 0 where
-  pub names : Diagonal ns
-  pub same : a ≡ b
 
 module _ (x : Correspondence) (functions : List Func) (make : (ns : Names) → Diagonal ns → (f : FuncNo) → x.Functions ns f f) (take : (ns : Names) (f g : FuncNo) → x.Functions ns f g → Itself ns f g) where
   abbrev X : Names → Expr → Expr → Type 0

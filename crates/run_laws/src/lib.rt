@@ -1,0 +1,2 @@
+//! Laws on all runs of scripts, by the rules of the whole language.
+#![tactic(auto)]
