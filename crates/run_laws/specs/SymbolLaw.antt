@@ -1,5 +1,5 @@
 -- The run of a script in a world, and its run along this world's own choices.
-use Rattle.std.specs.Prelude.{◌≡◌, ℕ, ◌+◌, nat_eq, List, [], Option, Some}
+use Rattle.std.specs.Prelude.{◌≡◌, ℕ, ◌+◌, nat_eq, Bool, List, [], Some}
 use Rattle.std.proofs.Common.{refl, ap, subst}
 use Rattle.js_value.specs.declared.place.Place.{Place}
 use Rattle.js_value.specs.declared.primitive.Kind.{Kind}

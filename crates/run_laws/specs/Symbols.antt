@@ -1,5 +1,5 @@
 -- What symbols mean in a world, and the run of a script along the truth values that its symbols have there (9.2).
-use Rattle.std.specs.Prelude.{◌≡◌, ℕ, zero, suc, ◌+◌, if◌then◌else◌, Bool, true, false, List, [], ◌∷◌, length, slice_get, Option, Some, None, Result, Ok, Err}
+use Rattle.std.specs.Prelude.{ℕ, zero, suc, if◌then◌else◌, Bool, true, false, List, [], ◌∷◌, slice_get, Option, Some, None, Result, Ok, Err}
 use Rattle.std.specs.Option.{option_map}
 use Rattle.js_value.specs.Conversions.{to_boolean}
 use Rattle.js_value.specs.Operators.{binary_row, unary_row}
@@ -10,8 +10,8 @@ use Rattle.js_value.specs.declared.primitive.Primitive.{Primitive}
 use Rattle.js_value.specs.declared.primitive.Primitive.TheVariants as primitive
 use Rattle.js_value.specs.declared.why.Why.{Why}
 use Rattle.plain_heap.specs.Heap.{lookup}
-use Rattle.plain_heap.specs.Values.{Value, Prim, Symbolic, Symbol, Input, Answer, Threw, Unary, Binary, Operand, Known, Unknown}
-use Rattle.js_machine.specs.Machine.Choices as open
+use Rattle.plain_heap.specs.Values.{Prim, Symbolic, Symbol, Input, Answer, Threw, Unary, Binary, Operand, Known, Unknown}
+use Rattle.js_machine.specs.Machine.Choices as choices
 use Rattle.js_machine.specs.Machine.Choices.{Kept, kept_answer}
 use Rattle.js_machine.specs.Machine.Events as T
 use Rattle.js_machine.specs.Machine.Events.{Tree, Step, Turn, Ask, Call, Stop, Spent, End, Fail}
@@ -77,7 +77,7 @@ own_choices w n calls kept (Step at t) = while_steps n (λ n. own_choices w n ca
 own_choices w n calls kept (Turn at t) = while_steps n (λ n. own_choices w n calls kept t)
 own_choices w n calls kept (Ask at s f) = unless_kept (kept_answer s kept) (λ b. own_choices w n calls kept (f b)) (choice (meant w s) (λ b. own_choices w n calls ((s, b) ∷ kept) (f b)))
 own_choices w n calls kept (T.Input at k name f) = own_choices w n calls kept (f (Symbolic (Input k name)))
-own_choices w n calls kept (Call at k name arguments f) = own_choices w n (suc calls) kept (f (open.answer k calls) (open.thrown calls))
+own_choices w n calls kept (Call at k name arguments f) = own_choices w n (suc calls) kept (f (choices.answer k calls) (choices.thrown calls))
 own_choices w n calls kept (Stop why at) = []
 own_choices w n calls kept Spent = []
 own_choices w n calls kept (End h) = []
