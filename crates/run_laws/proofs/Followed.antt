@@ -1,5 +1,5 @@
 -- The run in a world and the run along this world's own choices, event by event.
-use Rattle.std.proofs.Common.{◌≡◌, refl, ap, sym, subst, ◌∙◌, ℕ, zero, suc, ◌+◌, Bool, true, false, cond, List, [], ◌∷◌, ◌++◌, arith}
+use Rattle.std.proofs.Common.{◌≡◌, refl, ap, sym, subst, ◌∙◌, ℕ, zero, suc, Bool, true, false, List, [], ◌∷◌, ◌++◌, arith}
 use Rattle.std.specs.Prelude.{if◌then◌else◌, length, slice_get, Option, Some, None}
 use Rattle.std.specs.Option.{option_map}
 use Rattle.std.proofs.lemmas.List.{length-append}
@@ -9,22 +9,20 @@ use Rattle.js_value.specs.declared.primitive.Kind.{Kind}
 use Rattle.js_value.specs.declared.primitive.Primitive.{Primitive}
 use Rattle.js_value.specs.declared.primitive.Primitive.TheVariants as primitive
 use Rattle.js_value.specs.declared.why.Why.{Why}
-use Rattle.js_value.specs.declared.why.Why.TheVariants.{NoInput, InputKind, AnswerKind, NoAnswer}
-use Rattle.plain_heap.specs.Values.{Value, Prim, Symbolic, Symbol, Input, Threw, truth}
-use Rattle.plain_heap.specs.Values as value
-use Rattle.plain_heap.specs.Heap.{Heap, lookup}
+use Rattle.js_value.specs.declared.why.Why.TheVariants.{NoInput, InputKind, AnswerKind}
+use Rattle.plain_heap.specs.Values.{Value, Prim, Symbolic, Symbol, Input, truth}
+use Rattle.plain_heap.specs.Heap.{lookup}
 use Rattle.plain_heap.proofs.Properties.{some_is}
 use Rattle.js_machine.specs.Machine.Choices as choices
 use Rattle.js_machine.specs.Machine.Choices.{Opened, OpenRun, Kept, kept_answer, tested, open_walk, open_spend}
 use Rattle.js_machine.specs.Machine.Events as T
 use Rattle.js_machine.specs.Machine.Events.{Tree, Step, Turn, Ask, Call, Stop, Spent, End, Fail}
 use Rattle.js_machine.specs.Machine.Operators as P
-use Rattle.js_machine.specs.Machine.Walks.{World, Answer, HostEvent, Outcome, Left, walk, spend, given, answered, called, is_of_kind}
-use Rattle.related_states.specs.Related.{BothEach, none, also, SameValue, known, stands, SameHeaps}
+use Rattle.js_machine.specs.Machine.Walks.{World, Answer, HostEvent, Outcome, Left, walk, given, answered, called, is_of_kind}
+use Rattle.related_states.specs.Related.{BothEach, none, also, SameValue, stands}
 use Rattle.related_runs.proofs.Related.{TreeRelation}
-use Rattle.run_laws.specs.Symbols.{meant, of_kind, choice, unless_kept, while_steps, own_choices}
+use Rattle.run_laws.specs.Symbols.{meant, of_kind, choice, unless_kept, own_choices}
 use Rattle.run_laws.specs.SymbolLaw.{valued, SameEvent, same_event, same_normally, same_thrown, Valued, leaves, needs, both_end, both_out}
-use Rattle.run_laws.proofs.Types.{none_is}
 use Rattle.run_laws.proofs.Meant.{same_meant}
 
 -- ---- all choices are taken, whatever the events are

@@ -1,5 +1,5 @@
 -- Symbols of one world have the meanings that rules ask for.
-use Rattle.std.proofs.Common.{◌≡◌, refl, ap, sym, subst, ◌∙◌, ℕ, zero, suc, ◌+◌, Bool, true, false, cond, List, [], ◌∷◌, arith}
+use Rattle.std.proofs.Common.{◌≡◌, refl, ap, sym, subst, ◌∙◌, ℕ, Bool, true, false, List, [], arith}
 use Rattle.std.specs.Prelude.{if◌then◌else◌, pos, bit_and, bit_or, bit_xor, ◌&&◌, ◌||◌, ◌++◌, ◌==◌, ◌+ℤ◌, ◌-ℤ◌, drop, slice_index, not, nat_eq, nat_le, length, slice_get, ℤ, Option, Some, None, Result, Ok, Err}
 use Rattle.std.specs.Option.{option_map}
 use Rattle.std.specs.Cmp.Lexicographic.{nat_list_eq_equiv, same_text}
@@ -30,9 +30,9 @@ use Rattle.js_machine.specs.Machine.Walks as world
 use Rattle.js_machine.specs.Machine.Walks.{World, is_of_kind}
 use Rattle.related_states.specs.Related.{SameValue, known, stands}
 use Rattle.related_runs.proofs.Operators.{IsKnown, is_boolean, is_number, is_text, IsSymbol, is_symbol, SameOperand, itself, unknown, Meanings}
-use Rattle.run_laws.specs.Symbols.{meant, meant_operand, of_kind, to_option, by_one, by_two, gives_symbol}
+use Rattle.run_laws.specs.Symbols.{meant, meant_operand, to_option, by_one, by_two, gives_symbol}
 use Rattle.run_laws.specs.SymbolLaw.{Stands, valued}
-use Rattle.run_laws.proofs.Types.{none_is, of_kind_is, Operated, operated, Operands, operands, one_type, two_type, types, operand_types}
+use Rattle.run_laws.proofs.Types.{none_is, of_kind_is, operated, operands, one_type, two_type, types, operand_types}
 use Rattle.run_laws.proofs.Sizes.{Small, safe_small, within_small, negated_small, multiplied_small, divided_by_small, remainder_small, shifted_left_small, shifted_right_small, shifted_unsigned_small, bitwise_small, and_small, or_small, xor_small, complement_small, short_text}
 
 -- ---- primitives

@@ -1,13 +1,13 @@
 -- The numbers that symbols stand for are in the range of the profile, so none has a text that is too long.
-use Rattle.std.proofs.Common.{◌≡◌, refl, ap, sym, subst, ◌∙◌, ℕ, zero, suc, ◌+◌, ◌*◌, ◌<◌, ◌≤◌, Bool, true, false, cond, List, [], ◌∷◌, arith, negsuc}
-use Rattle.std.specs.Prelude.{if◌then◌else◌, pos, neg_ℤ, ◌-ℤ◌, ◌*ℤ◌, ◌-◌, bit_and, bit_or, bit_xor, unsigned_abs, ◌&&◌, ◌||◌, ◌^◌, ◌/◌, ◌%◌, not, nat_le, length, ℤ, int_lt, int_div, int_rem, Option, Some, None, Result, Ok, Err}
+use Rattle.std.proofs.Common.{◌≡◌, subst, ℕ, ◌<◌, ◌≤◌, Bool, true, false, cond, arith, negsuc}
+use Rattle.std.specs.Prelude.{if◌then◌else◌, pos, neg_ℤ, ◌-ℤ◌, ◌*ℤ◌, ◌-◌, bit_and, bit_or, bit_xor, unsigned_abs, ◌&&◌, ◌||◌, ◌^◌, ◌%◌, not, nat_le, length, ℤ, int_lt, int_div, int_rem, Result, Ok, Err}
 use Rattle.std.specs.Fmt.{signed_decimal}
-use Rattle.std.specs.Int.{int_rem_euclid, int_div_euclid}
+use Rattle.std.specs.Int.{int_div_euclid}
 use Rattle.std.proofs.lemmas.Fmt.{length_signed_le}
 use Rattle.std.proofs.lemmas.Nat.{and_le_l, or_lt, xor_lt}
 use Rattle.std.proofs.Math.Nat.{div-le_self}
 use Rattle.std.proofs.lemmas.Grind.{common_steps}
-use Rattle.js_value.specs.Conversions.{int32, uint32, signed32, to_number}
+use Rattle.js_value.specs.Conversions.{int32, uint32, signed32}
 use Rattle.js_value.specs.Operators as J
 use Rattle.js_value.specs.Numbers.{within, is_safe, negated}
 use Rattle.js_value.specs.declared.why.Why.{Why}

@@ -1,16 +1,16 @@
 -- Of each script: its run in a world, and its run along this world's own choices, from the realm.
-use Rattle.std.proofs.Common.{◌≡◌, refl, ap, sym, subst, ◌∙◌, ℕ, zero, suc, Bool, true, false, cond, List, [], ◌∷◌, arith}
+use Rattle.std.proofs.Common.{◌≡◌, refl, subst, ℕ, zero, suc, Bool, true, false, List, [], ◌∷◌, arith}
 use Rattle.std.specs.Prelude.{◌&&◌, slice_get, Option, Some, None}
 use Rattle.std.specs.List.{list_all}
 use Rattle.std.proofs.lemmas.Bool.{and_parts}
 use Rattle.js_tree.specs.declared.statement.Script.{Script}
 use Rattle.plain_heap.specs.Values.{Value, Prim, Object, Absent, Symbolic}
-use Rattle.plain_heap.specs.Heap.{Heap, Key, Property, Properties, Data, Accessor, Class, Plain, Array, Function, Builtin, ObjectState, is_array_class}
+use Rattle.plain_heap.specs.Heap.{Key, Property, Properties, Data, Accessor, Class, Plain, Array, Function, Builtin, ObjectState, is_array_class}
 use Rattle.js_machine.specs.Machine.Choices.{open_run}
 use Rattle.js_machine.specs.Machine.Levels.{script_tree}
 use Rattle.js_machine.specs.Machine.Realm.{realm}
 use Rattle.js_machine.specs.Machine.Walks.{World, plain, plain_from, behind}
-use Rattle.related_states.specs.Related.{Correspondence, BothOption, nothing, just, BothEach, none, also, SameValue, known, object, SameHeld, held, absent, SameProperty, same_data, same_accessor, SameEntry, entry, SameClass, same_plain, same_array, same_builtin, SameState, same_state, SameHeaps}
+use Rattle.related_states.specs.Related.{BothOption, nothing, just, BothEach, none, also, known, object, SameHeld, held, absent, SameProperty, same_data, same_accessor, SameEntry, entry, SameClass, same_plain, same_array, same_builtin, SameState, same_state, SameHeaps}
 use Rattle.related_runs.proofs.Levels.{script_trees}
 use Rattle.related_runs.proofs.Itself.{same_script}
 use Rattle.run_laws.specs.SymbolLaw.{valued, Valued, choices_of, SymbolsValued}
