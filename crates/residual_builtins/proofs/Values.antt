@@ -1,6 +1,6 @@
 -- The runs of literals, of operators and of names on the global object.
-use Rattle.std.proofs.Common.{◌≡◌, ℕ, suc, ◌+◌, Bool, true, false, List, [], ◌∷◌, refl, ap, subst, sym, ◌∙◌, zero-add, arith}
-use Rattle.std.specs.Prelude.{if◌then◌else◌, codes, Result, Ok, Option, Some, None}
+use Rattle.std.proofs.Common.{inr, ◌++◌, length, ◌≡◌, ℕ, suc, ◌+◌, Bool, true, false, List, [], ◌∷◌, refl, ap, subst, sym, ◌∙◌, zero-add, arith}
+use Rattle.std.specs.Prelude.{slice_get, slice_set, if◌then◌else◌, codes, Result, Ok, Option, Some, None}
 use Rattle.std.specs.Fmt.{decimal}
 use Rattle.std.specs.Option.{option_and_then, option_map}
 use Rattle.std.proofs.lemmas.Bool.{both_ways}
@@ -16,7 +16,7 @@ use Rattle.js_tree.specs.declared.expression.Field.{Field, out-Field}
 use Rattle.js_tree.specs.declared.expression.ExprForm.{out-ExprForm}
 use Rattle.js_tree.specs.declared.expression.ExprForm.TheOpen.{ExprForm-F, Field-F}
 use Rattle.js_tree.specs.declared.statement.Stmt.{Stmt}
-use Rattle.plain_heap.specs.Heap.{Key, Heap, ObjectState, Plain, Array, cell, data_property, depth_of, is_function, make_object, object_at, or_else, resolve, Property}
+use Rattle.plain_heap.specs.Heap.{new_state, depth_at, Key, Heap, ObjectState, Plain, Array, cell, data_property, depth_of, is_function, make_object, object_at, or_else, resolve, Property}
 use Rattle.plain_heap.specs.Methods as methods
 use Rattle.plain_heap.specs.Valid.{is_absent}
 use Rattle.plain_heap.specs.Values.{Value, Object, ObjNo, CellNo, number, truth, undefined}
@@ -38,6 +38,14 @@ use Rattle.residual_builtins.specs.Values.{changed, DeletesIndex, takes_value, p
 
 zero_more : (i : ℕ) → i + 0 ≡ i
 zero_more i = omega arith
+
+at_end : {A : Type 0} (xs : List A) (x : A) → slice_get (xs ++ x ∷ []) (length xs) ≡ Some x
+at_end [] x = refl
+at_end (y ∷ xs) x = at_end xs x
+
+set_end : {A : Type 0} (xs : List A) (x : A) → slice_set (xs ++ x ∷ []) (length xs) x ≡ xs ++ x ∷ []
+set_end [] x = refl
+set_end (y ∷ xs) x = ap (λ ys. y ∷ ys) (set_end xs x)
 
 module _ (set : Setting) (calls : ℕ) (context : Context) (w : World) (d : ℕ) where
   abbrev ev : Ev
@@ -90,6 +98,26 @@ module _ (set : Setting) (calls : ℕ) (context : Context) (w : World) (d : ℕ)
   unfolding expr_rule expressions.array_rule
   array_runs e es s after i is filled =
       expr_runs set calls context w d e (ExprForm-F.ArrayLit es) is (record { at = λ n k r. filled.at n (λ _ s'. k (Object (make_object Array (Some array_prototype) s.heap).0) s') r })
+
+  -- the length of a new array is 0
+  new_length : (h : Heap) → let made = make_object Array (Some array_prototype) h in let state = new_state Array (Some array_prototype) (depth_at h (Some array_prototype)) in
+      Defines made.1 made.0 methods.length_key (methods.value_field (number 0)) state
+  unfolding methods.define methods.define_array methods.define_plain
+  new_length h = record {
+    named = refl;
+    before = new_state Array (Some array_prototype) (depth_at h (Some array_prototype));
+    there = at_end h.objects (new_state Array (Some array_prototype) (depth_at h (Some array_prototype)));
+    length = inr tt;
+    defined = refl;
+  }
+
+  empty_array : (e : Expr) (s : State) → IsExpr e (ExprForm-F.ArrayLit []) → let made = make_object Array (Some array_prototype) s.heap in
+      Runs w (evaluate set calls context (suc d) e) s 1 (Object made.0) (record s { heap = made.1 })
+  empty_array e s is =
+      let made = make_object Array (Some array_prototype) s.heap in
+      let state = new_state Array (Some array_prototype) (depth_at s.heap (Some array_prototype)) in
+      subst (λ objects. Runs w (evaluate set calls context (suc d) e) s 1 (Object made.0) (record s { heap = record (s.heap) { objects = objects } })) (set_end s.heap.objects state)
+      (array_runs e [] s (changed made.0 state (record s { heap = made.1 })) 0 is (no_elements e.at made.0 0 (record s { heap = made.1 }) state (new_length s.heap)))
 
   -- ---- operators
 
@@ -231,6 +259,7 @@ values_run = record {
     hole = λ at o n es before after i runs. runs;
     element = element_runs set calls context w d;
     array = array_runs set calls context w d;
+    empty = empty_array set calls context w d;
   };
   operators = λ set calls context w d. record {
     of_one = unary_runs set calls context w d;

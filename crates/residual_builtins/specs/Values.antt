@@ -105,6 +105,9 @@ module _ (set : Setting) (calls : ℕ) (context : Context) (w : World) (d : ℕ)
         → ElementMade e o n before i mid → Runs w (elements_from at o (n + 1) es) mid j tt after → Runs w (elements_from at o n (Some e ∷ es)) before (i + j) tt after
     pub array : (e : Expr) (es : List (Option Expr)) (s after : State) (i : ℕ) → IsExpr e (ExprForm-F.ArrayLit es) → let made = make_object Array (Some array_prototype) s.heap in
         Runs w (elements_from e.at made.0 0 es) (record s { heap = made.1 }) i tt after → Runs w (evaluate set calls context (suc d) e) s (1 + i) (Object made.0) after
+    -- []
+    pub empty : (e : Expr) (s : State) → IsExpr e (ExprForm-F.ArrayLit []) → let made = make_object Array (Some array_prototype) s.heap in
+        Runs w (evaluate set calls context (suc d) e) s 1 (Object made.0) (record s { heap = made.1 })
 
   -- ---- 11.4 to 11.10: what an operator gives of values, where it gives one
 
