@@ -1,6 +1,6 @@
 -- Conversions and operators on values that correspond (9, 11): where a symbol stands on the right, its value stands on the left.
 use Rattle.std.proofs.Common.{◌≡◌, refl, ap, sym, subst, ℕ, Bool, true, false, cond, List}
-use Rattle.std.specs.Prelude.{not, nat_eq, ℤ, Some, Result, Ok, Err}
+use Rattle.std.specs.Prelude.{◌||◌, not, nat_eq, ℤ, Some, Result, Ok, Err}
 use Rattle.js_value.specs.Conversions.{is_same_value, to_boolean, to_number, to_text, to_uint32, to_integer}
 use Rattle.js_value.specs.Operators.{add, binary_row, unary_row}
 use Rattle.js_value.specs.declared.operator.BinaryOp.{BinaryOp}
@@ -28,6 +28,10 @@ pub data IsKnown : Primitive → Type 0 where
   is_number : (n : ℤ) → IsKnown (primitive.Number n)
   is_text : (t : List ℕ) → IsKnown (primitive.Text t)
 
+abbrev pub is_unknown : Operand → Bool
+is_unknown (Known p) = false
+is_unknown (Unknown s) = true
+
 module _ (x : Correspondence) where
   pub data IsSymbol : Value → Value → Type 0 where
     is_symbol : {p : Primitive} {s : Symbol} → IsKnown p → Means x p s → IsSymbol (Prim p) (Symbolic s)
@@ -47,11 +51,11 @@ module _ (x : Correspondence) where
   pub record Meanings : Type 0 where
     pub symbols : (v u : Value) → x.Stands v u → IsSymbol v u
     pub one : (op : UnaryOp) (row : Primitive → Result Primitive Why) (p r : Primitive) (s : Symbol) → unary_row op ≡ Some row → Means x p s → row p ≡ Ok r → SameValue x (Prim r) (P.unary_on_symbol op s)
-    pub two : (op : BinaryOp) (row : Primitive → Primitive → Result Primitive Why) (p q r : Primitive) (a b : Operand) → binary_row op ≡ Some row → SameOperand p a → SameOperand q b → row p q ≡ Ok r
+    pub two : (op : BinaryOp) (row : Primitive → Primitive → Result Primitive Why) (p q r : Primitive) (a b : Operand) → binary_row op ≡ Some row → SameOperand p a → SameOperand q b → is_unknown a || is_unknown b ≡ true → row p q ≡ Ok r
         → SameValue x (Prim r) (P.on_symbols op a b)
     pub same : (p q : Primitive) (s t : Symbol) → Means x p s → Means x q t → P.is_same_symbol s t ≡ true → is_same_value p q ≡ true
     pub other : (p q : Primitive) (a b : Operand) → SameOperand p a → SameOperand q b → P.is_same_type (P.operand_type a) (P.operand_type b) ≡ false → is_same_value p q ≡ false
-    pub asked : (p q : Primitive) (a b : Operand) → SameOperand p a → SameOperand q b → Means x (primitive.Boolean (is_same_value p q)) (Binary binary.Same a b)
+    pub asked : (p q : Primitive) (a b : Operand) → SameOperand p a → SameOperand q b → is_unknown a || is_unknown b ≡ true → Means x (primitive.Boolean (is_same_value p q)) (Binary binary.Same a b)
     pub opposite : (p : Primitive) (s : Symbol) → Means x p (Unary unary.Not s) → (q : Primitive) × Means x q s × (to_boolean p ≡ not (to_boolean q))
     pub spelled : (p : Primitive) (s : Symbol) → Means x p s → SameValue x (Prim (primitive.Text (to_text p))) (Symbolic (P.symbol_text s))
     pub made_object : (o : ℕ) → x.MadeObject o
@@ -179,9 +183,9 @@ module _ {x : Correspondence} (m : Meanings x) where
 
   operated_seen : (op : BinaryOp) (row : Primitive → Primitive → Result Primitive Why) → binary_row op ≡ Some row → {v u a b : Value} → Seen x v u → Seen x a b → SameResult x (SameValue x) (P.operated op row v a) (P.operated op row u b)
   operated_seen op row is (plain p) (plain q) = entry_both (row p q)
-  operated_seen op row is (plain p) (symbol {p = q} {s = t} k d) = entry_symbol d (row p q) (λ r e. m.two op row p q r (Known p) (Unknown t) is (itself p) (unknown d) e)
-  operated_seen op row is (symbol {p = p} {s = s} k d) (plain q) = entry_symbol d (row p q) (λ r e. m.two op row p q r (Unknown s) (Known q) is (unknown d) (itself q) e)
-  operated_seen op row is (symbol {p = p} {s = s} k d) (symbol {p = q} {s = t} l c) = entry_symbol d (row p q) (λ r e. m.two op row p q r (Unknown s) (Unknown t) is (unknown d) (unknown c) e)
+  operated_seen op row is (plain p) (symbol {p = q} {s = t} k d) = entry_symbol d (row p q) (λ r e. m.two op row p q r (Known p) (Unknown t) is (itself p) (unknown d) refl e)
+  operated_seen op row is (symbol {p = p} {s = s} k d) (plain q) = entry_symbol d (row p q) (λ r e. m.two op row p q r (Unknown s) (Known q) is (unknown d) (itself q) refl e)
+  operated_seen op row is (symbol {p = p} {s = s} k d) (symbol {p = q} {s = t} l c) = entry_symbol d (row p q) (λ r e. m.two op row p q r (Unknown s) (Unknown t) is (unknown d) (unknown c) refl e)
   operated_seen op row is (objects r) (objects s) = on_objects_both op (two_objects r s)
   operated_seen op row is (objects r) (plain q) = on_objects_both op (first_and r q)
   operated_seen op row is (objects r) (symbol k d) = on_objects_both op (first_and_symbol r k d)
@@ -208,25 +212,25 @@ module _ {x : Correspondence} (m : Meanings x) where
 
   -- ---- 9.12
 
-  asked_both : (p q : Primitive) (a b : Operand) → SameOperand x p a → SameOperand x q b → SameTold x (Told (is_same_value p q)) (P.asked_same a b)
-  asked_both p q a b h l = by_type (P.is_same_type (P.operand_type a) (P.operand_type b)) refl
+  asked_both : (p q : Primitive) (a b : Operand) → SameOperand x p a → SameOperand x q b → is_unknown a || is_unknown b ≡ true → SameTold x (Told (is_same_value p q)) (P.asked_same a b)
+  asked_both p q a b h l some = by_type (P.is_same_type (P.operand_type a) (P.operand_type b)) refl
     where
       by_type : (t : Bool) → P.is_same_type (P.operand_type a) (P.operand_type b) ≡ t → SameTold x (Told (is_same_value p q)) (cond t (Asked (Binary binary.Same a b)) (Told false))
-      by_type true e = asked (is_same_value p q) (m.asked p q a b h l)
+      by_type true e = asked (is_same_value p q) (m.asked p q a b h l some)
       by_type false e = subst (λ c. SameTold x (Told c) (Told false)) (sym (m.other p q a b h l e)) (told false)
 
   symbols_both : (p q : Primitive) (s t : Symbol) → Means x p s → Means x q t → (b : Bool) → P.is_same_symbol s t ≡ b
       → SameTold x (Told (is_same_value p q)) (cond b (Told true) (P.asked_same (Unknown s) (Unknown t)))
   symbols_both p q s t d c true e = subst (λ b. SameTold x (Told b) (Told true)) (sym (m.same p q s t d c e)) (told true)
-  symbols_both p q s t d c false e = asked_both p q (Unknown s) (Unknown t) (unknown d) (unknown c)
+  symbols_both p q s t d c false e = asked_both p q (Unknown s) (Unknown t) (unknown d) (unknown c) refl
 
   sameness_seen : {v u a b : Value} → Seen x v u → Seen x a b → SameResult x (SameTold x) (P.sameness v a) (P.sameness u b)
   sameness_seen (plain p) (plain q) = both_give (told _)
   sameness_seen (objects {o = o} r) (objects {o = p} s) = both_give (subst (λ c. SameTold x (Told (nat_eq o p)) (Told c)) (x.one_object _ _ _ _ r s) (told (nat_eq o p)))
   sameness_seen (plain p) (objects s) = both_give (told false)
   sameness_seen (objects r) (plain q) = both_give (told false)
-  sameness_seen (plain p) (symbol {p = q} {s = t} k d) = both_give (asked_both p q (Known p) (Unknown t) (itself p) (unknown d))
-  sameness_seen (symbol {p = p} {s = s} k d) (plain q) = both_give (asked_both p q (Unknown s) (Known q) (unknown d) (itself q))
+  sameness_seen (plain p) (symbol {p = q} {s = t} k d) = both_give (asked_both p q (Known p) (Unknown t) (itself p) (unknown d) refl)
+  sameness_seen (symbol {p = p} {s = s} k d) (plain q) = both_give (asked_both p q (Unknown s) (Known q) (unknown d) (itself q) refl)
   sameness_seen (symbol {p = p} {s = s} k d) (symbol {p = q} {s = t} l c) = both_give (symbols_both p q s t d c (P.is_same_symbol s t) refl)
   sameness_seen (symbol k d) (objects r) = both_give (told false)
   sameness_seen (objects r) (symbol k d) = both_give (told false)

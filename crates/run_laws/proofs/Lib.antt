@@ -3,3 +3,4 @@ pub mod Sizes
 pub mod Meant
 pub mod Followed
 pub mod SymbolLaw
+pub mod LaterLaw

@@ -29,7 +29,7 @@ use Rattle.js_machine.specs.Machine.Operators as P
 use Rattle.js_machine.specs.Machine.Walks as world
 use Rattle.js_machine.specs.Machine.Walks.{World, is_of_kind}
 use Rattle.related_states.specs.Related.{SameValue, known, stands}
-use Rattle.related_runs.proofs.Operators.{IsKnown, is_boolean, is_number, is_text, IsSymbol, is_symbol, SameOperand, itself, unknown, Meanings}
+use Rattle.related_runs.proofs.Operators.{IsKnown, is_boolean, is_number, is_text, IsSymbol, is_symbol, SameOperand, itself, unknown, is_unknown, Meanings}
 use Rattle.run_laws.specs.Symbols.{meant, meant_operand, to_option, by_one, by_two, gives_symbol}
 use Rattle.run_laws.specs.SymbolLaw.{Stands, valued}
 use Rattle.run_laws.proofs.Types.{none_is, of_kind_is, operated, operands, one_type, two_type, types, operand_types}
@@ -357,24 +357,24 @@ module _ (w : World) where
   other_of : (p q : Primitive) (a b : Operand) → SameOperand (valued w) p a → SameOperand (valued w) q b → P.is_same_type (P.operand_type a) (P.operand_type b) ≡ false → is_same_value p q ≡ false
   other_of p q a b h l e = differ p q (rw (sym (operand_types w a p (operand_meant a p h)), sym (operand_types w b q (operand_meant b q l))) e)
 
-  two_of : (op : BinaryOp) (row : Primitive → Primitive → Result Primitive Why) (p q r : Primitive) (a b : Operand) → binary_row op ≡ Some row → SameOperand (valued w) p a → SameOperand (valued w) q b → row p q ≡ Ok r
+  two_of : (op : BinaryOp) (row : Primitive → Primitive → Result Primitive Why) (p q r : Primitive) (a b : Operand) → binary_row op ≡ Some row → SameOperand (valued w) p a → SameOperand (valued w) q b → is_unknown a || is_unknown b ≡ true → row p q ≡ Ok r
       → SameValue (valued w) (Prim r) (P.on_symbols op a b)
   unfolding binary_row J.number_row J.truth_row
-  two_of binary.Same row p q r a b is h l e = by_type (P.is_same_type (P.operand_type a) (P.operand_type b)) refl
+  two_of binary.Same row p q r a b is h l some e = by_type (P.is_same_type (P.operand_type a) (P.operand_type b)) refl
     where
       by_type : (c : Bool) → P.is_same_type (P.operand_type a) (P.operand_type b) ≡ c → SameValue (valued w) (Prim r) (if c then Symbolic (Binary binary.Same a b) else Prim (primitive.Boolean false))
       by_type true c = two_symbol binary.Same row p q r a b is h l e
       by_type false c = subst (λ r. SameValue (valued w) (Prim r) (Prim (primitive.Boolean false))) (ok_is _ _ (sym (ap (λ b. J.truth b) (other_of p q a b h l c)) ∙ ap (λ f. f p q) (some_is _ _ is) ∙ e)) (known _)
-  two_of binary.NotSame row p q r a b is h l e = by_type (P.is_same_type (P.operand_type a) (P.operand_type b)) refl
+  two_of binary.NotSame row p q r a b is h l some e = by_type (P.is_same_type (P.operand_type a) (P.operand_type b)) refl
     where
       by_type : (c : Bool) → P.is_same_type (P.operand_type a) (P.operand_type b) ≡ c → SameValue (valued w) (Prim r) (if c then Symbolic (Binary binary.NotSame a b) else Prim (primitive.Boolean true))
       by_type true c = two_symbol binary.NotSame row p q r a b is h l e
       by_type false c = subst (λ r. SameValue (valued w) (Prim r) (Prim (primitive.Boolean true))) (ok_is _ _ (sym (ap (λ b. J.truth (not b)) (other_of p q a b h l c)) ∙ ap (λ f. f p q) (some_is _ _ is) ∙ e)) (known _)
-  two_of op row p q r a b is h l e = two_symbol op row p q r a b is h l e
+  two_of op row p q r a b is h l some e = two_symbol op row p q r a b is h l e
 
-  asked_of : (p q : Primitive) (a b : Operand) → SameOperand (valued w) p a → SameOperand (valued w) q b → meant w (Binary binary.Same a b) ≡ Some (primitive.Boolean (is_same_value p q))
+  asked_of : (p q : Primitive) (a b : Operand) → SameOperand (valued w) p a → SameOperand (valued w) q b → is_unknown a || is_unknown b ≡ true → meant w (Binary binary.Same a b) ≡ Some (primitive.Boolean (is_same_value p q))
   unfolding binary_row J.number_row J.truth_row
-  asked_of p q a b h l = rw (operand_meant a p h, operand_meant b q l) refl
+  asked_of p q a b h l some = rw (operand_meant a p h, operand_meant b q l) refl
 
   opposite_of : (p : Primitive) (s : Symbol) → meant w (Unary unary.Not s) ≡ Some p → (q : Primitive) × (meant w s ≡ Some q) × (to_boolean p ≡ not (to_boolean q))
   unfolding unary_row to_boolean

@@ -1,2 +1,3 @@
 pub mod Symbols
 pub mod SymbolLaw
+pub mod LaterLaw

@@ -1,6 +1,7 @@
 //! Laws on all runs of scripts, by the rules of the whole language.
 #![tactic(auto)]
 
+ghost use Rattle.run_laws.specs.LaterLaw.{LaterRuns};
 ghost use Rattle.run_laws.specs.SymbolLaw.{SymbolsValued};
 
 /// Symbols and values, for every script, in every world and with every budget: the run in the world leaves, or the run along the
@@ -10,4 +11,11 @@ ghost use Rattle.run_laws.specs.SymbolLaw.{SymbolsValued};
 #[tactic(auto, using(crate::proofs::SymbolLaw::symbols_valued))]
 pub fn symbol_law()
     ensures { SymbolsValued }
+{}
+
+/// Later scripts, after two starts with heaps that correspond and the same functions: whatever the script, the world and the budget
+/// are, both runs end, with the same host calls and heaps that correspond, both leave with one cause, or both are out of steps.
+#[tactic(auto, using(crate::proofs::LaterLaw::later))]
+pub fn later_law()
+    ensures { LaterRuns }
 {}
