@@ -12,9 +12,10 @@ use Rattle.plain_heap.specs.Heap as heap
 use Rattle.heap_values.specs.Meaning.{class_of, environment_at, property_of, value_of}
 use Rattle.heap_values.specs.declared.class.Class.{Class}
 use Rattle.heap_values.specs.declared.class.Class.TheVariants as class
+use Rattle.heap_values.specs.declared.property.Property.{Property}
 use Rattle.heap_values.specs.declared.value.Value.{Value}
 use Rattle.heap_arena.specs.declared.object.Object.{Object}
-use Rattle.heap_arena.specs.Meaning.{Store, heap_of, object_of, is_scope_there, are_scopes_there}
+use Rattle.heap_arena.specs.Meaning.{Store, entries_of, heap_of, object_of, is_scope_there, are_scopes_there}
 
 -- ---- what is there
 
@@ -54,6 +55,15 @@ module _ (objects : List Object) (cells : List Value) (environments : List heap.
   pub with_object : (o : Object) → heap_of (record store { objects = objects ++ o ∷ [] }) ≡ heap.add_object (object_of environments o) (heap_of store)
   unfolding heap_of
   with_object o = ap (λ os. record { objects = os; cells = map value_of cells }) (map-append (object_of environments) objects (o ∷ []))
+
+  pub with_new_object : (class : Class) (prototype : Option ℕ) (depth : ℕ) (properties : List (List ℕ × Property))
+      → entries_of properties ≡ heap.first_properties (class_of environments class) → depth ≡ heap.depth_at (heap_of store) prototype
+      → heap_of (record store { objects = objects ++ record { class = class; prototype = prototype; depth = depth; extensible = true; properties = properties } ∷ [] })
+      ≡ heap.new_object (class_of environments class) prototype (heap_of store)
+  with_new_object class prototype depth properties entries deep =
+      with_object (record { class = class; prototype = prototype; depth = depth; extensible = true; properties = properties })
+      ∙ ap (λ ps. heap.add_object (record (heap.new_state (class_of environments class) prototype depth) { properties = ps }) (heap_of store)) entries
+      ∙ ap (λ n. heap.add_object (heap.new_state (class_of environments class) prototype n) (heap_of store)) deep
 
   pub with_object_set : (n : ℕ) (o : Object) → heap_of (record store { objects = slice_set objects n o }) ≡ heap.set_object n (object_of environments o) (heap_of store)
   unfolding heap_of

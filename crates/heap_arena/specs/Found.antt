@@ -1,5 +1,5 @@
 -- What is found along prototypes, and what [[Get]] and [[Put]] come to, in the definitions.
-use Rattle.std.specs.Prelude.{ℕ, true, Option, Some, None}
+use Rattle.std.specs.Prelude.{ℕ, Bool, true, false, Option, Some, None}
 use Rattle.plain_heap.specs.Heap as heap
 use Rattle.plain_heap.specs.Methods as methods
 use Rattle.plain_heap.specs.Values as values
@@ -24,3 +24,7 @@ putting_of v putting.Refuse = methods.Refuse
 putting_of v putting.Change = methods.Define (methods.value_field v)
 putting_of v putting.Make = methods.Define (methods.data_fields v true true true)
 putting_of v (putting.Setter f) = methods.CallSetter f
+
+abbrev pub is_own_data : Option heap.Property → Bool
+is_own_data (Some (heap.Data p)) = true
+is_own_data _ = false

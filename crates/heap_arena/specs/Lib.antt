@@ -1,3 +1,4 @@
 pub mod Environments
 pub mod Meaning
 pub mod Found
+pub mod Parts

@@ -4,13 +4,14 @@ ghost use Rattle.std.specs.Prelude.{◌≡◌, ◌++◌, ◌∷◌, [], true, le
 ghost use Rattle.std.specs.Option.{option_copied, option_map};
 ghost use Rattle.std.specs.List.{zip};
 ghost use Rattle.plain_heap.specs.Heap as defined;
-ghost use Rattle.heap_values.specs.Meaning.{environment_at, value_of};
+ghost use Rattle.heap_values.specs.Meaning.{class_of, environment_at, value_of};
 ghost use Rattle.heap_arena.specs.Environments.{surrounding};
-ghost use Rattle.heap_arena.specs.Meaning.{heap_of};
+ghost use Rattle.heap_arena.specs.Meaning.{heap_of, is_scope_there, object_of};
 
 use crate::arena::{get_at, set_at};
+use crate::object::first_properties;
 use crate::{CellNos, Object, Scope, Scopes};
-use heap_values::{CellNo, ObjNo, ScopeNo, Value};
+use heap_values::{CellNo, Class, ObjNo, ScopeNo, Value};
 use js_value::{NoMemory, Text, Texts};
 use std::alloc::Global;
 use std::marker::Model;
@@ -45,6 +46,62 @@ impl Heap {
             cells: Vec::new(alloc),
             scopes: Scopes::new(alloc),
         }
+    }
+
+    // ---- objects
+
+    /// The object of a number, where it is there.
+    pub(crate) fn object(&self, o: ObjNo) -> Option<&Object>
+        ensures { option_map (object_of self.now.environments) (option_copied result) ≡ defined.object_at (heap_of self.now) o }
+    {
+        get_at(self.objects.as_slice(), o.index())
+    }
+
+    /// How many objects a chain of prototypes has that begins at this one.
+    fn depth_at(&self, o: &Option<ObjNo>) -> Result<usize, NoMemory>
+        ensures { IfOk result (λ n. n ≡ defined.depth_at (heap_of self.now) o.now) }
+    {
+        let Some(o) = o else {
+            return Ok(0);
+        };
+        match self.object(*o) {
+            Some(object) => object.depth.checked_add(1).ok_or(NoMemory),
+            None => Ok(0),
+        }
+    }
+
+    /// A new object without properties, but an array gets its length (15.4.5.2). The scope of a function is there.
+    pub fn new_object(
+        &mut self,
+        alloc: Global,
+        class: Class,
+        prototype: Option<ObjNo>,
+    ) -> Result<ObjNo, NoMemory>
+        requires { is_scope_there (length self.old.environments) class ≡ true }
+        ensures number { IfOk result (λ o. o ≡ length (heap_of self.old).objects) }
+        ensures made { OnOk result (heap_of self.new ≡ defined.new_object (class_of self.old.environments class) prototype (heap_of self.old)) }
+        ensures scopes { self.new.environments ≡ self.old.environments }
+        ensures err { OnErr result (self.new ≡ self.old) }
+    {
+        let properties = first_properties(alloc, &class)?;
+        let depth = self.depth_at(&prototype)?;
+        let object = Object {
+            class,
+            prototype,
+            depth,
+            extensible: true,
+            properties,
+        };
+        let number = self.objects.len();
+        self.objects.push(object)?;
+        Ok(ObjNo(number))
+    }
+
+    /// How many objects there are.
+    pub fn object_count(&self) -> usize
+        ensures { result ≡ length (heap_of self.now).objects }
+    {
+        self.objects.len()
     }
 
     // ---- cells

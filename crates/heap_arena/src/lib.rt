@@ -5,6 +5,7 @@ mod arena;
 mod environment;
 mod found;
 mod heap;
+mod methods;
 mod object;
 
 pub use environment::{CellNos, Scope, Scopes};

@@ -6,7 +6,7 @@ use crate::ScopeNo;
 use js_value::FuncNo;
 
 /// What an object is beside its properties (8.6.2).
-#[derive(Clone, Copy, Debug)]
+#[derive(Debug, Drop)]
 pub enum Class {
     Plain,
     Array,
