@@ -1,0 +1,2 @@
+//! Runs of scripts keep heaps valid.
+#![tactic(auto)]
