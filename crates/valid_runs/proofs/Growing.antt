@@ -9,7 +9,7 @@ use Rattle.plain_heap.specs.Heap as heap
 use Rattle.plain_heap.specs.Methods.{Descriptor}
 use Rattle.plain_heap.specs.Valid.{if_some, is_value, is_cell, is_property, is_valid, are_cells, is_depth}
 use Rattle.plain_heap.specs.Laws.{is_change}
-use Rattle.plain_heap.proofs.Grown.{Grown, StillThere, value_kept, functions_kept, less_kept, all_kept}
+use Rattle.plain_heap.proofs.Grown.{Grown, function_kept, StillThere, value_kept, functions_kept, less_kept, all_kept}
 use Rattle.valid_runs.specs.Kept.{Keeps, IsStill, IsObject, IsValue, is_primitive, is_object, is_symbol, IsOutside, of_primitive, of_symbol}
 
 -- ---- the order of heaps
@@ -162,3 +162,9 @@ later_field {h = h} {after = after} up (Some v) is = value_kept h after (grown u
 
 pub later_change : {h after : Heap} → Keeps h after → {d : Descriptor} → IsChange h d → IsChange after d
 later_change up {d = d} is = record { value = later_field up d.value is.value; get = later_function up d.get is.get; set = later_function up d.set is.set }
+
+pub record IsFunction (h : Heap) (f : ObjNo) : Type 0 where
+  pub is : is_function h f ≡ true
+
+pub later_made : {h after : Heap} → Keeps h after → {f : ObjNo} → IsFunction h f → IsFunction after f
+later_made {h = h} {after = after} up {f = f} is = record { is = function_kept h after (grown up) f is.is }

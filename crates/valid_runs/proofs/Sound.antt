@@ -93,11 +93,11 @@ changes {s = s} {f = f} h = record { at = λ start fit k d kept caught. kept.at 
 pub makes : {A : Type 0} {s : Heap} {Is : Heap → A → Type 0} {f : Heap → A × Heap} → (Keeps realm s → Made s Is (f s)) → At s Is (make f)
 makes {s = s} {f = f} h = record { at = λ start fit k d kept caught. kept.at (f s).0 (f s).1 (h fit).keeps (h fit).value }
 
-pub looks : {A : Type 0} {s : Heap} {Is : A → Type 0} {f : Heap → A} → (Keeps realm s → Is (f s)) → Steady s Is (look f)
-looks {s = s} {f = f} h = record { at = λ start fit k d kept caught. kept (f s) (h fit) }
+pub looks : {A : Type 0} {s : Heap} (Is : A → Type 0) (f : Heap → A) → (Keeps realm s → Is (f s)) → Steady s Is (look f)
+looks {s = s} Is f h = record { at = λ start fit k d kept caught. kept (f s) (h fit) }
 
 pub looks_any : {A : Type 0} {s : Heap} (f : Heap → A) → Steady s (Any s) (look f)
-looks_any {s = s} f = looks (λ fit. any (f s))
+looks_any {s = s} f = looks (Any s) f (λ fit. any (f s))
 
 -- ---- events
 
@@ -128,17 +128,30 @@ pub tests_same : {A : Type 0} {s : Heap} {Is : A → Type 0} {m n : Run A} (b : 
 tests_same true h l = h
 tests_same false h l = l
 
-pub in_turns : {A : Type 0} {s : Heap} {P : A → Type 0} {f : A → Run (Unit {0})} → ((t : Heap) → Keeps s t → (a : A) → P a → At t Any (f a)) → {t : Heap} → Keeps s t → {xs : List A} → Each P xs → At t Any (in_turn f xs)
-in_turns h up none = gives_any tt
-in_turns {s = s} {f = f} h {t = t} up (also {x = x} {xs = xs} is all) = bind_any (h t up x is) (λ u more _. in_turns h (up ⊚ more) all)
+-- from this heap on
+pub from_here : {A : Type 0} {s : Heap} {Is : Heap → A → Type 0} {m : Run A} → (Keeps s s → At s Is m) → At s Is m
+from_here h = on_realm (λ fit. h (same fit.valid))
 
-pub in_turns_any : {A : Type 0} {s : Heap} {f : A → Run (Unit {0})} → ((t : Heap) → Keeps s t → (a : A) → At t Any (f a)) → {t : Heap} → Keeps s t → (xs : List A) → At t Any (in_turn f xs)
-in_turns_any h up [] = gives_any tt
-in_turns_any h {t = t} up (x ∷ xs) = bind_any (h t up x) (λ u more _. in_turns_any h (up ⊚ more) xs)
+turns_from : {A : Type 0} {s : Heap} {P : A → Type 0} {f : A → Run (Unit {0})} → ((t : Heap) → Keeps s t → (a : A) → P a → At t Any (f a)) → {t : Heap} → Keeps s t → {xs : List A} → Each P xs → At t Any (in_turn f xs)
+turns_from h up none = gives_any tt
+turns_from h {t = t} up (also {x = x} is all) = bind_any (h t up x is) (λ u more _. turns_from h (up ⊚ more) all)
 
-pub all_values : {A : Type 0} {s : Heap} {f : A → Run Value} → ((t : Heap) → Keeps s t → (a : A) → At t IsValue (f a)) → {t : Heap} → Keeps s t → (xs : List A) → At t Values (each f xs)
-all_values h up [] = gives none
-all_values h {t = t} up (x ∷ xs) = bind (h t up x) (λ u more y is. bind (all_values h (up ⊚ more) xs) (λ v most ys all. gives (also (later most is) all)))
+pub in_turns : {A : Type 0} {s : Heap} {P : A → Type 0} {f : A → Run (Unit {0})} → ((t : Heap) → Keeps s t → (a : A) → P a → At t Any (f a)) → {xs : List A} → Each P xs → At s Any (in_turn f xs)
+in_turns h all = from_here (λ up. turns_from h up all)
+
+any_turns_from : {A : Type 0} {s : Heap} {f : A → Run (Unit {0})} → ((t : Heap) → Keeps s t → (a : A) → At t Any (f a)) → {t : Heap} → Keeps s t → (xs : List A) → At t Any (in_turn f xs)
+any_turns_from h up [] = gives_any tt
+any_turns_from h {t = t} up (x ∷ xs) = bind_any (h t up x) (λ u more _. any_turns_from h (up ⊚ more) xs)
+
+pub in_turns_any : {A : Type 0} {s : Heap} {f : A → Run (Unit {0})} → ((t : Heap) → Keeps s t → (a : A) → At t Any (f a)) → (xs : List A) → At s Any (in_turn f xs)
+in_turns_any h xs = from_here (λ up. any_turns_from h up xs)
+
+values_from : {A : Type 0} {s : Heap} {f : A → Run Value} → ((t : Heap) → Keeps s t → (a : A) → At t IsValue (f a)) → {t : Heap} → Keeps s t → (xs : List A) → At t Values (each f xs)
+values_from h up [] = gives none
+values_from h {t = t} up (x ∷ xs) = bind (h t up x) (λ u more y is. bind (values_from h (up ⊚ more) xs) (λ v most ys all. gives (also (later most is) all)))
+
+pub all_values : {A : Type 0} {s : Heap} {f : A → Run Value} → ((t : Heap) → Keeps s t → (a : A) → At t IsValue (f a)) → (xs : List A) → At s Values (each f xs)
+all_values h xs = from_here (λ up. values_from h up xs)
 
 pub catches : {A : Type 0} {s : Heap} {Is : Heap → A → Type 0} {m : Run A} {f : Value → Run A} → ((t : Heap) → Keeps s t → (v : Value) → IsValue t v → At t Is (f v)) → At s Is m → At s Is (catching f m)
 catches {f = f} handles h = record {
@@ -155,7 +168,10 @@ unless_done_too : {A : Type 0} {s : Heap} {Is : Heap → A → Type 0} {m : Run 
 unless_done_too h goes_on = h
 unless_done_too h (is_done is) = gives is
 
-pub repeats : {A : Type 0} {s : Heap} {Is : Heap → A → Type 0} {m : Run (Next A)} → ((t : Heap) → Keeps s t → At t (IsNext Is) m) → (n : ℕ) {t : Heap} → Keeps s t → At t Is (repeat n m)
+repeats_from : {A : Type 0} {s : Heap} {Is : Heap → A → Type 0} {m : Run (Next A)} → ((t : Heap) → Keeps s t → At t (IsNext Is) m) → (n : ℕ) {t : Heap} → Keeps s t → At t Is (repeat n m)
 unfolding repeat
-repeats h zero up = record { at = λ start fit k d kept caught. out_of_turns }
-repeats h (suc n) {t = t} up = bind (h t up) (λ u more next is. unless_done_too (repeats h n (up ⊚ more)) is)
+repeats_from h zero up = record { at = λ start fit k d kept caught. out_of_turns }
+repeats_from h (suc n) {t = t} up = bind (h t up) (λ u more next is. unless_done_too (repeats_from h n (up ⊚ more)) is)
+
+pub repeats : {A : Type 0} {s : Heap} {Is : Heap → A → Type 0} {m : Run (Next A)} → ((t : Heap) → Keeps s t → At t (IsNext Is) m) → (n : ℕ) → At s Is (repeat n m)
+repeats h n = from_here (λ up. repeats_from h n up)
