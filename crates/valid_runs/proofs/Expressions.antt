@@ -1,6 +1,6 @@
 -- The rules of expressions are sound, where the evaluation of their parts is.
-use Rattle.std.proofs.Common.{◌≡◌, ℕ, ◌+◌, Bool, true, false, List, [], ◌∷◌, refl}
-use Rattle.std.specs.Prelude.{codes, Option, Some, None, Result, is_some, ◌++◌, map}
+use Rattle.std.proofs.Common.{ℕ, ◌+◌, true, false, List, [], ◌∷◌, refl}
+use Rattle.std.specs.Prelude.{codes, Option, Some, None, Result}
 use Rattle.std.specs.List.{list_any}
 use Rattle.std.specs.Fmt.{decimal}
 use Rattle.js_value.specs.Operators.{binary_row, unary_row}
@@ -23,21 +23,19 @@ use Rattle.js_tree.specs.declared.expression.LogicOp.TheVariants as logic
 use Rattle.js_tree.specs.declared.expression.StepOp.{StepOp}
 use Rattle.js_tree.specs.declared.expression.StepOp.TheVariants as stepping
 use Rattle.js_tree.specs.declared.statement.Stmt.{Stmt}
-use Rattle.plain_heap.specs.Values.{Value, Prim, Object, ObjNo, undefined, number, truth}
-use Rattle.plain_heap.specs.Heap.{Heap, Key, Plain, Array, is_function}
-use Rattle.plain_heap.specs.Methods.{value_field, length_key}
-use Rattle.js_machine.specs.Machine.Creating as creating
+use Rattle.plain_heap.specs.Values.{Value, Prim, Object, ObjNo}
+use Rattle.plain_heap.specs.Heap.{Heap, Key}
+use Rattle.plain_heap.specs.Methods.{length_key}
 use Rattle.js_machine.specs.Machine.Expressions as E
 use Rattle.js_machine.specs.Machine.Expressions.{Ev, Completion, Normal, Break, Continue, Return}
 use Rattle.js_machine.specs.Machine.References.{Context, Reference, NameReference, PropertyReference, InCell, OnGlobal, Nowhere}
-use Rattle.js_machine.specs.Machine.Realm.{realm}
 use Rattle.js_machine.specs.Machine.RealmObjects.{TypeError, ReferenceError}
 use Rattle.js_machine.specs.Machine.Objects as objects
 use Rattle.js_machine.specs.Machine.Operators as operators
 use Rattle.js_machine.specs.Machine.Events.{Run, Leaves, each, take_input, call_host}
 use Rattle.valid_runs.specs.Kept.{Keeps, IsObject, IsValue, is_primitive, is_object, is_symbol, inputs, calls}
-use Rattle.valid_runs.proofs.Growing.{IsFunction, ◌⊚◌, same, Each, none, also, Values, later, later_object, later_values, later_cells, AreCells, IsChange, function_there, from_outside}
-use Rattle.valid_runs.proofs.Sound.{At, Steady, Any, any, bind, bind_any, first, first_any, moves, on_realm, gives, gives_any, gives_same, throws, left_at, looks, looks_any, chooses, tests, in_turns_any, all_values, makes}
+use Rattle.valid_runs.proofs.Growing.{IsFunction, ◌⊚◌, same, Values, later, later_object, later_cells, AreCells, function_there, from_outside}
+use Rattle.valid_runs.proofs.Sound.{At, Steady, Any, bind, bind_any, first, first_any, moves, gives, gives_same, throws, left_at, looks_any, chooses, tests, in_turns_any, all_values, makes}
 use Rattle.valid_runs.proofs.Making.{expression_made, function_made}
 use Rattle.valid_runs.proofs.Objects.{Calls, IsReference, is_name, is_property, later_reference, site_of, is_undefined, is_truth, make_plain_too, make_array_too, throw_error_too, test_too, to_key_too, operate_too, operate_one_too, check_base_too, get_too, define_too, make_property_too, has_property_too, delete_of_too, resolve_name_too, get_value_too, put_value_too, of_value}
 

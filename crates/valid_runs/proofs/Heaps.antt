@@ -1,10 +1,9 @@
 -- What a valid heap gives, and that each change which is given values of the heap keeps it (8.12, 15.4.5).
-use Rattle.std.proofs.Common.{◌≡◌, ◌<◌, ◌≤◌, refl, ap, ◌∙◌, sym, ℕ, zero, suc, Bool, true, false, List, [], ◌∷◌, ◌++◌, arith}
+use Rattle.std.proofs.Common.{◌≡◌, ◌<◌, refl, ap, ◌∙◌, sym, ℕ, zero, suc, Bool, true, false, List, [], ◌∷◌, ◌++◌, arith}
 use Rattle.std.specs.Prelude.{if◌then◌else◌, nat_lt, length, slice_get, slice_set, Option, Some, None}
-use Rattle.std.proofs.lemmas.Bool.{and_parts, and_from}
-use Rattle.std.proofs.lemmas.List.{length-append, length-set}
-use Rattle.plain_heap.specs.Values.{Value, Prim, Object, ObjNo, CellNo}
-use Rattle.plain_heap.specs.Heap.{Heap, Key, Class, Plain, Array, Function, Builtin, ObjectState, is_array_class, object_at, set_object, add_object, new_state, depth_at, make_object, make_cell, set_cell, new_cell, new_object, is_configurable, without, Property}
+use Rattle.std.proofs.lemmas.List.{length-append}
+use Rattle.plain_heap.specs.Values.{Value, Prim, ObjNo, CellNo}
+use Rattle.plain_heap.specs.Heap.{Heap, Key, Class, Plain, Array, Function, Builtin, ObjectState, is_array_class, object_at, set_object, add_object, new_state, depth_at, make_object, make_cell, set_cell, new_cell, is_configurable, without, Property}
 use Rattle.plain_heap.specs.Methods.{Descriptor, Defining, Defined, Rejected, BadLength, IfSame, define, define_array, define_plain, delete, delete_by, own_property, array_index}
 use Rattle.plain_heap.specs.Valid.{if_some, is_class, is_object, is_valid}
 use Rattle.plain_heap.specs.Laws.{IsKept, add_objects}
@@ -14,10 +13,9 @@ use Rattle.plain_heap.proofs.Making.{makes_valid, right_parts}
 use Rattle.plain_heap.proofs.Changing.{IsLike, HasLength, right_at, stays_kept, like_self, has_length, length_is, prevents, deletes}
 use Rattle.plain_heap.proofs.Defining.{Ends, plain_ends, like_with}
 use Rattle.plain_heap.proofs.Lengths.{IsArray, array_ends}
-use Rattle.js_machine.specs.Machine.Realm.{realm}
 use Rattle.valid_runs.specs.Kept.{Keeps, IsStill, IsObject, IsValue}
 use Rattle.valid_runs.proofs.Growing.{IsChange, change_is, cell_is}
-use Rattle.valid_runs.proofs.Sound.{Made, Any, any}
+use Rattle.valid_runs.proofs.Sound.{Made}
 
 -- ---- an object in the place of another
 

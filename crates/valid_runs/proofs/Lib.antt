@@ -5,3 +5,8 @@ pub mod Making
 pub mod Objects
 pub mod Expressions
 pub mod Statements
+pub mod Functions
+pub mod Builtins
+pub mod Arrays
+pub mod RealmRules
+pub mod Levels

@@ -1,7 +1,6 @@
 -- Functions and environments that are made keep a heap (13, 13.2, 10.5).
-use Rattle.std.proofs.Common.{◌≡◌, ◌<◌, refl, ap, sym, ◌∙◌, ℕ, zero, suc, ◌+◌, Bool, true, false, List, [], ◌∷◌, ◌++◌, arith}
-use Rattle.std.specs.Prelude.{unwrap_or, nat_lt, codes, length, slice_get, Option, Some, None}
-use Rattle.std.specs.List.{list_all}
+use Rattle.std.proofs.Common.{◌≡◌, ◌<◌, refl, ap, ℕ, zero, suc, ◌+◌, Bool, true, List, [], ◌∷◌, ◌++◌, arith}
+use Rattle.std.specs.Prelude.{unwrap_or, nat_lt, length, slice_get, Option, Some, None}
 use Rattle.std.proofs.lemmas.Bool.{and_from}
 use Rattle.std.proofs.lemmas.List.{length-append}
 use Rattle.js_value.specs.declared.place.FuncNo.{FuncNo}
@@ -9,8 +8,8 @@ use Rattle.js_value.specs.declared.primitive.Primitive.TheVariants as primitive
 use Rattle.js_tree.specs.Mentions.{hoisted_functions}
 use Rattle.js_tree.specs.declared.statement.Func.{Func}
 use Rattle.js_tree.specs.declared.statement.Name.{Name}
-use Rattle.plain_heap.specs.Values.{Value, Object, ObjNo, CellNo, undefined}
-use Rattle.plain_heap.specs.Heap.{is_class, is_function_class, Heap, Environment, Key, Property, ObjectState, add_object, lookup, set_cell, make_cell}
+use Rattle.plain_heap.specs.Values.{Value, Object, CellNo, undefined}
+use Rattle.plain_heap.specs.Heap.{is_class, is_function_class, Heap, Environment, ObjectState, add_object, lookup, set_cell, make_cell}
 use Rattle.plain_heap.specs.Valid.{is_depth, is_value, are_cells}
 use Rattle.plain_heap.specs.Valid as valid
 use Rattle.plain_heap.proofs.Grown.{Grown, less_kept, at_added, all_added, depth_kept}
@@ -19,8 +18,8 @@ use Rattle.js_machine.specs.Machine.Creating as C
 use Rattle.js_machine.specs.Machine.Creating.{Change, ◌>>=◌}
 use Rattle.js_machine.specs.Machine.Realm.{realm}
 use Rattle.js_machine.specs.Machine.RealmObjects.{object_prototype, function_prototype}
-use Rattle.valid_runs.specs.Kept.{Keeps, IsObject, IsValue, is_primitive, is_object}
-use Rattle.valid_runs.proofs.Growing.{IsFunction, later_made, function_there, ◌⊚◌, same, grown, Each, none, also, Values, later, later_object, later_values, AreCells, later_cells}
+use Rattle.valid_runs.specs.Kept.{Keeps, IsValue, is_primitive, is_object}
+use Rattle.valid_runs.proofs.Growing.{IsFunction, later_made, function_there, ◌⊚◌, same, grown, none, also, Values, later, later_values, AreCells, later_cells}
 use Rattle.valid_runs.proofs.Sound.{Any, any, Made}
 use Rattle.valid_runs.proofs.Heaps.{IsCell, cell_made, cell_set, pair_added}
 

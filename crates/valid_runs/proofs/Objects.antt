@@ -1,8 +1,7 @@
 -- Conversions, operators and the internal methods of objects are sound, where the calls of values are.
-use Rattle.std.proofs.Common.{◌≡◌, refl, sym, subst, arith, ◌<◌, ℕ, zero, suc, Bool, true, false, List, [], ◌∷◌}
-use Rattle.std.specs.Prelude.{◌&&◌, ℤ, if◌then◌else◌, length, not, slice_get, Option, Some, None, Result, Ok, Err, unwrap_or, codes}
+use Rattle.std.proofs.Common.{◌≡◌, refl, sym, subst, arith, ◌<◌, ℕ, Bool, true, false, List}
+use Rattle.std.specs.Prelude.{◌&&◌, if◌then◌else◌, length, not, slice_get, Option, Some, None, Result, Ok, Err, unwrap_or}
 use Rattle.std.specs.Option.{option_and_then}
-use Rattle.std.proofs.lemmas.Bool.{and_from, and_parts}
 use Rattle.js_value.specs.Conversions.{is_same_text, to_boolean}
 use Rattle.js_value.specs.Operators.{add}
 use Rattle.js_value.specs.declared.operator.BinaryOp.{BinaryOp}
@@ -14,19 +13,17 @@ use Rattle.js_value.specs.declared.primitive.Primitive.{Primitive}
 use Rattle.js_value.specs.declared.primitive.Primitive.TheVariants as primitive
 use Rattle.js_value.specs.declared.why.Why.{Why}
 use Rattle.js_value.specs.declared.why.Why.TheVariants.{AbsentBuiltin, ObjectToPrimitive, PrimitiveProperty, PrimitiveThis}
-use Rattle.plain_heap.specs.Values.{Value, Prim, Object, Absent, Symbolic, Symbol, Unary, Binary, Operand, Known, Unknown, ObjNo, CellNo, undefined, truth}
-use Rattle.plain_heap.specs.Values as symbol
-use Rattle.plain_heap.specs.Heap.{Key, Heap, Class, Plain, Array, Property, ObjectState, is_function, cell, object_at, set_object, resolve}
+use Rattle.plain_heap.specs.Values.{Value, Prim, Object, Absent, Symbolic, Symbol, Unary, Operand, Known, Unknown, ObjNo, CellNo, undefined, truth}
+use Rattle.plain_heap.specs.Heap.{Key, Heap, Class, Property, ObjectState, is_function, cell, object_at, set_object, resolve}
 use Rattle.plain_heap.specs.Methods.{Descriptor, data_fields, value_field, checked_key, Got, GotValue, CallGetter, Putting, Refuse, Define, CallSetter, Defining, Defined, Rejected, BadLength, IfSame, length_key, array_index, own_property}
 use Rattle.plain_heap.specs.Methods as methods
 use Rattle.plain_heap.specs.Valid.{is_value, is_valid}
 use Rattle.plain_heap.specs.Valid as valid_heap
-use Rattle.plain_heap.specs.Laws.{GivesValues}
 use Rattle.plain_heap.proofs.Defining.{Ends, found_right}
 use Rattle.plain_heap.proofs.Giving.{gives_values}
 use Rattle.plain_heap.proofs.Changing.{right_at}
 use Rattle.plain_heap.proofs.Making.{right_parts}
-use Rattle.plain_heap.proofs.Puts.{for_put, IsForPut}
+use Rattle.plain_heap.proofs.Puts.{for_put}
 use Rattle.js_machine.specs.Machine.Realm.{realm}
 use Rattle.js_machine.specs.Machine.RealmObjects.{ErrorKind, TypeError, RangeError, ReferenceError, error_prototype, global, object_prototype, array_prototype}
 use Rattle.js_machine.specs.Machine.References as names
@@ -37,8 +34,8 @@ use Rattle.js_machine.specs.Machine.Operators as operators
 use Rattle.js_machine.specs.Machine.Operators.{Sameness, Told, Asked}
 use Rattle.js_machine.specs.Machine.Events.{Run, StopKind, Leaves, Lacks, or_stop, or_leave, Base}
 use Rattle.valid_runs.specs.Kept.{Keeps, IsObject, IsValue, is_primitive, is_object, is_symbol}
-use Rattle.valid_runs.proofs.Growing.{◌⊚◌, same, Each, none, also, Given, nothing, just, Values, later, later_object, value_is, is_there, from_cell, function_there, IsProperty, IsChange, later_change}
-use Rattle.valid_runs.proofs.Sound.{At, Steady, Any, any, bind, bind_any, first, first_any, then_steady, then_steady_any, moves, on_realm, gives_same, gives_same_any, gives, gives_any, throws, left_same, left_at, changes, makes, looks, looks_any, asked, chooses, tests, chooses_same, tests_same}
+use Rattle.valid_runs.proofs.Growing.{none, also, Given, nothing, just, Values, later, later_object, value_is, is_there, from_cell, IsProperty, IsChange}
+use Rattle.valid_runs.proofs.Sound.{At, Steady, Any, bind, bind_any, first, first_any, then_steady_any, moves, on_realm, gives_same, gives_same_any, gives_any, throws, left_same, left_at, changes, makes, looks, looks_any, asked, chooses, chooses_same, tests_same}
 use Rattle.valid_runs.proofs.Heaps.{IsMade, makes_plain, makes_array, object_made_with, defined, deleted, cell_set, IsFit}
 
 abbrev pub site_of : Place → (Value → Value → List Value → Run Value) → Site

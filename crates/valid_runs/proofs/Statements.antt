@@ -17,16 +17,15 @@ use Rattle.js_tree.specs.declared.statement.ForTarget.TheVariants as target
 use Rattle.js_tree.specs.declared.statement.Stmt.{Stmt}
 use Rattle.js_tree.specs.declared.statement.StmtForm.{StmtForm}
 use Rattle.js_tree.specs.declared.statement.StmtForm.TheOpen.{StmtForm-F}
-use Rattle.plain_heap.specs.Values.{Value, Prim, Object, Absent, Symbolic, ObjNo}
+use Rattle.plain_heap.specs.Values.{Value, Prim, Object, ObjNo}
 use Rattle.plain_heap.specs.Heap.{Heap, Key}
 use Rattle.js_machine.specs.Machine.Expressions.{Ev, Completion}
-use Rattle.js_machine.specs.Machine.Realm.{realm}
 use Rattle.js_machine.specs.Machine.References.{Context}
 use Rattle.js_machine.specs.Machine.Statements as S
 use Rattle.js_machine.specs.Machine.Events.{Run, Next, Leaves}
 use Rattle.valid_runs.specs.Kept.{Keeps, IsValue, is_primitive}
 use Rattle.valid_runs.proofs.Growing.{◌⊚◌, later, later_cells}
-use Rattle.valid_runs.proofs.Sound.{At, Steady, Any, any, IsNext, goes_on, is_done, after_later, bind, bind_any, first, first_any, moves, from_here, gives, gives_any, throws, left_at, looks_any, chooses, in_turns_any, catches, makes, repeats}
+use Rattle.valid_runs.proofs.Sound.{At, Any, IsNext, goes_on, is_done, after_later, bind, bind_any, first, first_any, moves, from_here, gives, gives_any, throws, left_at, looks_any, chooses, in_turns_any, catches, makes, repeats}
 use Rattle.valid_runs.proofs.Heaps.{cell_made}
 use Rattle.valid_runs.proofs.Making.{with_cell}
 use Rattle.valid_runs.proofs.Objects.{IsReference, later_reference, is_undefined, test_too, has_property_too, resolve_name_too, put_value_too}
@@ -203,7 +202,7 @@ module _ {ev : Ev} (a : PartsSound ev) where
 
   handle_too : {s : Heap} {context : Context} → IsContext s context → (name : List ℕ) (body : List Stmt) {v : Value} → IsValue s v → At s IsCompletion (S.handle ev context name body v)
   unfolding S.handle
-  handle_too {s = s} is name body value = bind (makes (λ fit. cell_made s fit.valid value)) (λ t up c there. body_too (record { cells = with_cell name there (later_cells up is.cells); this = later up is.this }) body)
+  handle_too {s = s} {context = context} is name body value = bind (makes (λ fit. cell_made s fit.valid value)) (λ t up c there. body_too {context = record context { environment = (name, c) ∷ context.environment }} (record { cells = with_cell name there (later_cells up is.cells); this = later up is.this }) body)
 
   with_handler_too : {s : Heap} {context : Context} → IsContext s context → (handler : Option Catch) {m : Run Completion} → At s IsCompletion m → At s IsCompletion (S.with_handler ev context handler m)
   with_handler_too is None h = h
