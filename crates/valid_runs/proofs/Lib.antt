@@ -10,3 +10,4 @@ pub mod Builtins
 pub mod Arrays
 pub mod RealmRules
 pub mod Levels
+pub mod Runs
