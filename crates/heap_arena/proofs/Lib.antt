@@ -1,0 +1,5 @@
+pub mod Lookups
+pub mod Scoping
+pub mod Views
+pub mod Entries
+pub mod Chains
