@@ -181,7 +181,8 @@ unfolding B.map_rule
 map_too = record {
   at = λ at {call} calls {arguments = arguments} is values. first (to_object_too at is) (λ o there. bind_any (length_of_too at calls there) (λ t up l. first_any (callback_too (argument arguments 0)) (λ _.
       bind make_array_too (λ u more array new. bind_any (put_too at calls new length_key (is_number l) true) (λ w most _.
-      bind_any (from_here (λ here. visit_too at calls (later_object (up ⊚ more ⊚ most) there) (later_values (up ⊚ more ⊚ most) values) (B.put_answer (site_of at call) array) (λ x last k v answer _ other a. make_property_too at calls array (decimal k) other) here l 0 tt))
+      bind_any (from_here (λ here. visit_too at calls (later_object (up ⊚ more ⊚ most) there) (later_values (up ⊚ more ⊚ most) values) (B.put_answer (site_of at call) array)
+      (λ x last k v answer _ other a. make_property_too at calls array (decimal k) other) here l 0 tt))
       (λ x last _. gives (is_object (later_object (most ⊚ last) new))))))));
 }
 

@@ -1,5 +1,5 @@
 -- The built-ins of objects, functions and errors are sound, where the calls of values are.
-use Rattle.std.proofs.Common.{◌≡◌, refl, subst, ℕ, zero, suc, ◌+◌, ◌<◌, Bool, true, false, List, [], ◌∷◌, ◌++◌, arith}
+use Rattle.std.proofs.Common.{◌≡◌, refl, subst, ℕ, zero, suc, ◌+◌, ◌<◌, Bool, true, false, List, [], ◌∷◌, ◌++◌}
 use Rattle.std.specs.Prelude.{◌&&◌, not, codes, drop, unsigned_abs, is_some, length, nat_lt, Option, Some, None, unwrap_or}
 use Rattle.std.specs.Fmt.{decimal}
 use Rattle.std.specs.Option.{option_map, option_and_then}
@@ -23,7 +23,7 @@ use Rattle.js_machine.specs.Machine.Objects as objects
 use Rattle.js_machine.specs.Machine.Events.{Run, ◌>>=◌, Leaves, choose, give}
 use Rattle.js_machine.specs.Machine.Operators.{to_string}
 use Rattle.valid_runs.specs.Kept.{Keeps, IsObject, IsValue, is_primitive, is_object, is_symbol}
-use Rattle.valid_runs.proofs.Growing.{◌⊚◌, same, Each, none, also, Given, nothing, just, Values, later, later_object, later_values, value_is, function_there, prototype_there, IsProperty, IsChange, later_made, grown}
+use Rattle.valid_runs.proofs.Growing.{less_than, ◌⊚◌, same, Each, none, also, Given, nothing, just, Values, later, later_object, later_values, value_is, function_there, prototype_there, IsProperty, IsChange, later_made, grown}
 use Rattle.valid_runs.proofs.Sound.{At, Steady, Any, bind, bind_any, first, first_any, then_steady, then_steady_any, moves, on_realm, gives_same, gives_same_any, gives, gives_any, left_same, changes, makes, looks, looks_any, takes_turn, chooses, chooses_same, in_turns, in_turns_any}
 use Rattle.valid_runs.proofs.Heaps.{closed, makes_plain, object_made}
 use Rattle.valid_runs.proofs.Making.{argument_too}
@@ -47,9 +47,6 @@ no_properties_too at v = left_same (Leaves BuiltinArgument) at
 inside : {s : Heap} {prototype : Option ObjNo} → Given (IsObject s) prototype → if_some (λ o. nat_lt o (length s.objects)) prototype ≡ true
 inside nothing = refl
 inside {s = s} (just {a = o} there) = less_than o (length s.objects) there.below
-  where
-    less_than : (m n : ℕ) → m < n → nat_lt m n ≡ true
-    less_than m n is = grind (arith, is)
 
 -- a getter or a setter that a descriptor asks for
 record IsAsked (s : Heap) (f : Option (Option ObjNo)) : Type 0 where
@@ -342,5 +339,6 @@ apply_too = record {
 pub make_error_too : (prototype : ObjNo) → prototype < 41 → RuleSound (B.make_error prototype)
 unfolding B.make_error
 make_error_too prototype inside = record {
-  at = λ at calls {arguments = arguments} is values. on_realm (λ fit. bind (make_with_too makes_plain (realm_there fit prototype inside)) (λ t up o there. bind_any (with_message_too at calls o (argument arguments 0)) (λ u more _. gives (is_object (later_object more there)))));
+  at = λ at calls {arguments = arguments} is values. on_realm (λ fit. bind (make_with_too makes_plain (realm_there fit prototype inside)) (λ t up o there.
+      bind_any (with_message_too at calls o (argument arguments 0)) (λ u more _. gives (is_object (later_object more there)))));
 }

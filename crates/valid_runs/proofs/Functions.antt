@@ -46,13 +46,15 @@ returned_too (is_return is) = is
 pub record StmtsSound (stmt : Context → Stmt → Run Completion) : Type 0 where
   pub at : {s : Heap} {context : Context} → IsContext s context → (x : Stmt) → At s IsCompletion (stmt context x)
 
-module _ {stmt : Context → Stmt → Run Completion} (h : StmtsSound stmt) (functions : List Func) (at : Place) {s : Heap} {outer : Environment} (cells : AreCells s outer) (strict : Bool) {this : Value} (is : IsValue s this) {arguments : List Value} (values : Values s arguments) where
+module _ {stmt : Context → Stmt → Run Completion} (h : StmtsSound stmt) (functions : List Func) (at : Place)
+    {s : Heap} {outer : Environment} (cells : AreCells s outer) (strict : Bool) {this : Value} (is : IsValue s this) {arguments : List Value} (values : Values s arguments) where
   -- ---- 13.2.1
 
   function_call_too : (f : Func) → At s IsValue (F.function_call functions stmt at outer strict this arguments f)
   unfolding F.function_call
   function_call_too f = on_realm (λ fit. first (this_value_too fit at strict is) (λ own is. bind (makes (function_entered functions f cells strict values)) (λ t up environment there.
-      bind (statements_too (λ u more x. h.at {context = record { environment = environment; this = own; strict = strict }} (record { cells = later_cells more there; this = later (up ⊚ more) is }) x) f.body) (λ u more completion ended. gives (returned_too ended)))))
+      bind (statements_too (λ u more x.
+      h.at {context = record { environment = environment; this = own; strict = strict }} (record { cells = later_cells more there; this = later (up ⊚ more) is }) x) f.body) (λ u more completion ended. gives (returned_too ended)))))
 
   found_too : (f : Option Func) → At s IsValue (F.call_found functions stmt at outer strict this arguments f)
   found_too None = throw_error_too TypeError
@@ -101,7 +103,8 @@ module _ (at : Place) {call : Value → Value → List Value → Run Value} (cal
   declare_named_too is name = first (get_own_property_too at calls global name) (λ p _. bind_any (declare_function_too at calls name p) (λ t up _. on_realm (λ fit. put_too at calls (realm_there fit global (omega arith)) name (later up is) true)))
 
   bind_global_function_too : {s : Heap} (functions : List Func) (strict : Bool) (f : FuncNo) → At s Any (F.bind_global_function functions (site_of at call) strict f)
-  bind_global_function_too functions strict f = bind (makes (function_made functions f (record { are = refl }) strict)) (λ t up o there. in_turns_any (λ u more name. declare_named_too (later more (is_object (function_there there.is))) name) (function_name functions f))
+  bind_global_function_too functions strict f = bind (makes (function_made functions f (record { are = refl }) strict)) (λ t up o there.
+      in_turns_any (λ u more name. declare_named_too (later more (is_object (function_there there.is))) name) (function_name functions f))
 
   pub enter_global_too : {s : Heap} (functions : List Func) (strict : Bool) (body : List Stmt) → At s Any (F.enter_global functions (site_of at call) strict body)
   unfolding F.enter_global

@@ -9,7 +9,7 @@ use Rattle.plain_heap.specs.Heap as heap
 use Rattle.plain_heap.specs.Methods.{Descriptor}
 use Rattle.plain_heap.specs.Valid.{if_some, is_value, is_cell, is_property, is_valid, are_cells, is_depth}
 use Rattle.plain_heap.specs.Laws.{is_change}
-use Rattle.plain_heap.proofs.Grown.{Grown, function_kept, StillThere, value_kept, functions_kept, less_kept, all_kept}
+use Rattle.plain_heap.proofs.Grown.{Grown, function_kept, StillThere, less_kept, all_kept}
 use Rattle.valid_runs.specs.Kept.{Keeps, IsStill, IsObject, IsValue, is_primitive, is_object, is_symbol, IsOutside, of_primitive, of_symbol}
 
 -- ---- the order of heaps
@@ -73,7 +73,7 @@ pub from_outside : {h : Heap} {v : Value} → IsOutside v → IsValue h v
 from_outside (of_primitive p) = is_primitive p
 from_outside (of_symbol s) = is_symbol s
 
-less_than : (m n : ℕ) → m < n → nat_lt m n ≡ true
+pub less_than : (m n : ℕ) → m < n → nat_lt m n ≡ true
 less_than m n is = grind (arith, is)
 
 is_less : (m n : ℕ) → nat_lt m n ≡ true → m < n
@@ -145,23 +145,6 @@ pub change_is : {h : Heap} {d : Descriptor} → IsChange h d → is_change h d �
 change_is {h = h} {d = d} is =
     and_from (if_some (is_value h) d.value && if_some (if_some (is_function h)) d.get) (if_some (if_some (is_function h)) d.set)
     (and_from (if_some (is_value h) d.value) (if_some (if_some (is_function h)) d.get) is.value is.get) is.set
-
-pub record IsGetter (h : Heap) (f : Option (Option ObjNo)) : Type 0 where
-  pub is : if_some (if_some (is_function h)) f ≡ true
-
-pub record IsField (h : Heap) (v : Option Value) : Type 0 where
-  pub is : if_some (is_value h) v ≡ true
-
-later_function : {h after : Heap} → Keeps h after → (f : Option (Option ObjNo)) → if_some (if_some (is_function h)) f ≡ true → if_some (if_some (is_function after)) f ≡ true
-later_function up None is = refl
-later_function {h = h} {after = after} up (Some f) is = functions_kept h after (grown up) f is
-
-later_field : {h after : Heap} → Keeps h after → (v : Option Value) → if_some (is_value h) v ≡ true → if_some (is_value after) v ≡ true
-later_field up None is = refl
-later_field {h = h} {after = after} up (Some v) is = value_kept h after (grown up) v is
-
-pub later_change : {h after : Heap} → Keeps h after → {d : Descriptor} → IsChange h d → IsChange after d
-later_change up {d = d} is = record { value = later_field up d.value is.value; get = later_function up d.get is.get; set = later_function up d.set is.set }
 
 pub record IsFunction (h : Heap) (f : ObjNo) : Type 0 where
   pub is : is_function h f ≡ true

@@ -1,5 +1,5 @@
 -- What a valid heap gives, and that each change which is given values of the heap keeps it (8.12, 15.4.5).
-use Rattle.std.proofs.Common.{◌≡◌, ◌<◌, refl, ap, ◌∙◌, sym, ℕ, zero, suc, Bool, true, false, List, [], ◌∷◌, ◌++◌, arith}
+use Rattle.std.proofs.Common.{◌≡◌, refl, ap, ◌∙◌, sym, ℕ, zero, suc, Bool, true, false, List, [], ◌∷◌, ◌++◌, arith}
 use Rattle.std.specs.Prelude.{if◌then◌else◌, nat_lt, length, slice_get, slice_set, Option, Some, None}
 use Rattle.std.proofs.lemmas.List.{length-append}
 use Rattle.plain_heap.specs.Values.{Value, Prim, ObjNo, CellNo}
@@ -14,7 +14,7 @@ use Rattle.plain_heap.proofs.Changing.{IsLike, HasLength, right_at, stays_kept, 
 use Rattle.plain_heap.proofs.Defining.{Ends, plain_ends, like_with}
 use Rattle.plain_heap.proofs.Lengths.{IsArray, array_ends}
 use Rattle.valid_runs.specs.Kept.{Keeps, IsStill, IsObject, IsValue}
-use Rattle.valid_runs.proofs.Growing.{IsChange, change_is, cell_is}
+use Rattle.valid_runs.proofs.Growing.{less_than, IsChange, change_is, cell_is}
 use Rattle.valid_runs.proofs.Sound.{Made}
 
 -- ---- an object in the place of another
@@ -172,9 +172,6 @@ first_class : (s : Heap) (class : Class) (prototype : Option ObjNo) → IsMade c
 unfolding array_index
 first_class s _ prototype makes_plain = refl
 first_class s _ prototype makes_array = refl
-
-less_than : (m n : ℕ) → m < n → nat_lt m n ≡ true
-less_than m n is = grind (arith, is)
 
 pub object_made : (s : Heap) {class : Class} (prototype : Option ObjNo) → IsMade class → is_valid s ≡ true → if_some (λ o. nat_lt o (length s.objects)) prototype ≡ true → Made s IsObject (make_object class prototype s)
 object_made s {class = class} prototype made valid inside = record {

@@ -1,5 +1,5 @@
 -- Functions and environments that are made keep a heap (13, 13.2, 10.5).
-use Rattle.std.proofs.Common.{◌≡◌, ◌<◌, refl, ap, ℕ, zero, suc, ◌+◌, Bool, true, List, [], ◌∷◌, ◌++◌, arith}
+use Rattle.std.proofs.Common.{◌≡◌, refl, ap, ℕ, zero, suc, ◌+◌, Bool, true, List, [], ◌∷◌, ◌++◌, arith}
 use Rattle.std.specs.Prelude.{unwrap_or, nat_lt, length, slice_get, Option, Some, None}
 use Rattle.std.proofs.lemmas.Bool.{and_from}
 use Rattle.std.proofs.lemmas.List.{length-append}
@@ -19,7 +19,7 @@ use Rattle.js_machine.specs.Machine.Creating.{Change, ◌>>=◌}
 use Rattle.js_machine.specs.Machine.Realm.{realm}
 use Rattle.js_machine.specs.Machine.RealmObjects.{object_prototype, function_prototype}
 use Rattle.valid_runs.specs.Kept.{Keeps, IsValue, is_primitive, is_object}
-use Rattle.valid_runs.proofs.Growing.{IsFunction, later_made, function_there, ◌⊚◌, same, grown, none, also, Values, later, later_values, AreCells, later_cells}
+use Rattle.valid_runs.proofs.Growing.{less_than, IsFunction, later_made, function_there, ◌⊚◌, same, grown, none, also, Values, later, later_values, AreCells, later_cells}
 use Rattle.valid_runs.proofs.Sound.{Any, any, Made}
 use Rattle.valid_runs.proofs.Heaps.{IsCell, cell_made, cell_set, pair_added}
 
@@ -68,9 +68,6 @@ two_grow s a b = record {
   object_count = let count = two_more s a b in omega (arith, count);
   cell_count = omega arith;
 }
-
-less_than : (m n : ℕ) → m < n → nat_lt m n ≡ true
-less_than m n is = grind (arith, is)
 
 last_at : {A : Type 0} (xs : List A) (a : A) → slice_get (xs ++ a ∷ []) (length xs) ≡ Some a
 last_at [] a = refl

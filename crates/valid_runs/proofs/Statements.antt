@@ -202,7 +202,8 @@ module _ {ev : Ev} (a : PartsSound ev) where
 
   handle_too : {s : Heap} {context : Context} → IsContext s context → (name : List ℕ) (body : List Stmt) {v : Value} → IsValue s v → At s IsCompletion (S.handle ev context name body v)
   unfolding S.handle
-  handle_too {s = s} {context = context} is name body value = bind (makes (λ fit. cell_made s fit.valid value)) (λ t up c there. body_too {context = record context { environment = (name, c) ∷ context.environment }} (record { cells = with_cell name there (later_cells up is.cells); this = later up is.this }) body)
+  handle_too {s = s} {context = context} is name body value = bind (makes (λ fit. cell_made s fit.valid value)) (λ t up c there.
+      body_too {context = record context { environment = (name, c) ∷ context.environment }} (record { cells = with_cell name there (later_cells up is.cells); this = later up is.this }) body)
 
   with_handler_too : {s : Heap} {context : Context} → IsContext s context → (handler : Option Catch) {m : Run Completion} → At s IsCompletion m → At s IsCompletion (S.with_handler ev context handler m)
   with_handler_too is None h = h
