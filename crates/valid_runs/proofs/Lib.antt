@@ -1,0 +1,13 @@
+pub mod Growing
+pub mod Sound
+pub mod Heaps
+pub mod Making
+pub mod Objects
+pub mod Expressions
+pub mod Statements
+pub mod Functions
+pub mod Builtins
+pub mod Arrays
+pub mod RealmRules
+pub mod Levels
+pub mod Runs
