@@ -6,7 +6,7 @@ pub returns-in-Some-own : goal.returns-in-Some-own
 unfolding can_put
 returns-in-Some-own c =
     rw (← c.in-Some.ensures, ← c.in-Some-own.ensures)
-      (c.can_put_own.ensures (heap_of c.args.self.now) c.args.key.now (object_of c.args.self.now.environments c.in-Some.object.now))
+    (c.can_put_own.ensures (heap_of c.args.self.now) c.args.key.now (object_of c.args.self.now.environments c.in-Some.object.now))
 
 pub returns-in-Some-find_along : goal.returns-in-Some-find_along
 unfolding can_put

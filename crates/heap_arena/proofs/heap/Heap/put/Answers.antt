@@ -16,4 +16,4 @@ pub returns-in-Some : goal.returns-in-Some
 unfolding put
 returns-in-Some c v =
     rw (← c.if-not-can_put.ensures)
-      (c.put_by.ensures v c.in-Some.found.holder ∙ ap (put_found v) c.in-Some.ensures ∙ sym (by_chain (heap_of c.args.self.now) c.args.o c.args.key.now v _ c.if-has_own_data.ensures))
+    (c.put_by.ensures v c.in-Some.found.holder ∙ ap (put_found v) c.in-Some.ensures ∙ sym (by_chain (heap_of c.args.self.now) c.args.o c.args.key.now v _ c.if-has_own_data.ensures))
