@@ -1,6 +1,6 @@
 -- Properties along a chain of prototypes.
-use Rattle.std.proofs.Common.{◌≡◌, ℕ, zero, suc, Option, Some, None, ap, refl}
-use Rattle.plain_heap.specs.Heap.{Heap, Key, ObjectState, Property, object_at, depth_of, or_else}
+use Rattle.std.proofs.Common.{◌≡◌, ℕ, zero, suc, Some, None, ap, refl}
+use Rattle.plain_heap.specs.Heap.{Heap, Key, ObjectState, Property, object_at, depth_of}
 use Rattle.plain_heap.specs.Methods.{get_property, own_property, property_along}
 
 module _ (h : Heap) (key : Key) where

@@ -1,5 +1,5 @@
 -- The entries of a table, and those of the object that it stands for.
-use Rattle.std.proofs.Common.{◌≡◌, ◌∷◌, [], ℕ, List, Bool, true, false, Option, Some, None, ap, refl, if◌then◌else◌}
+use Rattle.std.proofs.Common.{◌≡◌, ◌∷◌, [], ℕ, List, Bool, true, false, Some, ap, refl, if◌then◌else◌}
 use Rattle.std.specs.Option.{option_map}
 use Rattle.js_value.specs.Conversions.{is_same_text}
 use Rattle.plain_heap.specs.Heap.{Key, lookup, put_at, without}

@@ -3,3 +3,4 @@ pub mod Scoping
 pub mod Views
 pub mod Entries
 pub mod Chains
+pub mod Changed

@@ -1,7 +1,6 @@
 -- The heap in code as a heap of the definitions.
-use Rattle.std.proofs.Common.{◌≡◌, ◌∷◌, ◌++◌, ◌+◌, ◌<◌, ◌≤◌, ◌∙◌, [], ℕ, List, Bool, true, Option, Some, None, ap, sym, arith, length, length-append, map, refl, nat_lt}
-use Rattle.std.specs.Prelude.{slice_get, slice_set, ◌&&◌}
-use Rattle.std.specs.List.{list_all}
+use Rattle.std.proofs.Common.{◌≡◌, ◌∷◌, ◌++◌, ◌+◌, ◌<◌, ◌≤◌, ◌∙◌, [], ℕ, List, true, Option, ap, sym, arith, length, length-append, map, refl}
+use Rattle.std.specs.Prelude.{slice_get, slice_set}
 use Rattle.std.specs.Option.{option_map}
 use Rattle.std.proofs.Math.ListN.{get_or-append}
 use Rattle.std.proofs.lemmas.List.{length-map, map-append, map-set, set_past}
@@ -9,7 +8,7 @@ use Rattle.std.proofs.lemmas.Option.{slice_get-map}
 use Rattle.std.proofs.lemmas.Bool.{and_parts, and_from, lt-ltb}
 use Rattle.std.proofs.lemmas.Bool.{ltb-true}
 use Rattle.plain_heap.specs.Heap as heap
-use Rattle.heap_values.specs.Meaning.{class_of, environment_at, property_of, value_of}
+use Rattle.heap_values.specs.Meaning.{class_of, value_of}
 use Rattle.heap_values.specs.declared.class.Class.{Class}
 use Rattle.heap_values.specs.declared.class.Class.TheVariants as class
 use Rattle.heap_values.specs.declared.property.Property.{Property}

@@ -1,5 +1,5 @@
 -- What is found along prototypes, and what [[Get]] and [[Put]] come to, in the definitions.
-use Rattle.std.specs.Prelude.{ℕ, Bool, true, false, Option, Some, None}
+use Rattle.std.specs.Prelude.{ℕ, Bool, true, false, Option, Some}
 use Rattle.plain_heap.specs.Heap as heap
 use Rattle.plain_heap.specs.Methods as methods
 use Rattle.plain_heap.specs.Values as values

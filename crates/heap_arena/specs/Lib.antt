@@ -2,3 +2,4 @@ pub mod Environments
 pub mod Meaning
 pub mod Found
 pub mod Parts
+pub mod Changes

@@ -1,7 +1,6 @@
 -- What the heap in code is in the definitions.
-use Rattle.std.specs.Prelude.{ℕ, nat_lt, Bool, true, List, [], map, length, Option, Some, None, unwrap_or}
+use Rattle.std.specs.Prelude.{ℕ, nat_lt, Bool, true, List, map}
 use Rattle.std.specs.List.{list_all}
-use Rattle.std.specs.Option.{option_map}
 use Rattle.plain_heap.specs.Heap as heap
 use Rattle.heap_values.specs.Meaning.{class_of, property_of, value_of}
 use Rattle.heap_values.specs.declared.class.Class.{Class}

@@ -19,7 +19,7 @@ use std::marker::Model;
 /// A heap: objects and cells (8.6), and the scopes (10.2) of its functions and of the code that runs.
 #[derive(Drop)]
 pub struct Heap {
-    objects: Vec<Object>,
+    pub(crate) objects: Vec<Object>,
     cells: Vec<Value>,
     scopes: Scopes,
 }

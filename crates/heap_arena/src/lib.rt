@@ -2,6 +2,7 @@
 #![tactic(auto)]
 
 mod arena;
+mod changes;
 mod environment;
 mod found;
 mod heap;

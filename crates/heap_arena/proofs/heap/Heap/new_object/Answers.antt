@@ -1,6 +1,4 @@
-use Rattle.std.proofs.Common.{rules, ◌∙◌, ap}
-use Rattle.plain_heap.specs.Heap as defined
-use Rattle.heap_arena.specs.Meaning.{heap_of}
+use Rattle.std.proofs.Common.{rules}
 use Rattle.heap_arena.proofs.Views.{with_new_object, objects-heap_of}
 use Rattle.heap_arena.proofs.heap.Heap.new_object.Goals as goal
 
