@@ -11,7 +11,8 @@ use js_value::{NoMemory, Text};
 use std::alloc::Global;
 use std::marker::Model;
 
-/// Properties by their keys, each key once, in the order of their creation. No call takes longer where there are more of them.
+/// Properties by their keys, each key once, in the order of their creation. On average over its calls none but `at` takes longer
+/// where there are more of them, nor where many were removed.
 #[derive(Drop)]
 pub struct PropertyTable<V> {
     map: IndexMap<Text, V>,

@@ -7,7 +7,7 @@ use Rattle.js_machine.specs.Machine.Events.{Tree, Step, Run, ◌>>=◌}
 use Rattle.js_machine.specs.Machine.Walks.{World, walk}
 use Rattle.residual_runs.specs.Runs.{State, Runs, Throws}
 
-sums : (i j n : ℕ) → (i + j) + n ≡ i + (j + n)
+pub sums : (i j n : ℕ) → (i + j) + n ≡ i + (j + n)
 sums i j n = omega arith
 
 next : (i n : ℕ) → (1 + i) + n ≡ suc (i + n)

@@ -1,11 +1,11 @@
 -- The runs of operands and of statements, one lemma for each form.
-use Rattle.std.proofs.Common.{◌≡◌, ℕ, suc, ◌+◌, Bool, true, false, List, [], ◌∷◌, refl, ap, subst, sym, ◌∙◌, zero-add, arith}
+use Rattle.std.proofs.Common.{◌≡◌, ◌⊎◌, inl, inr, ℕ, suc, ◌+◌, ◌&&◌, Bool, true, false, List, [], ◌∷◌, refl, ap, subst, sym, ◌∙◌, zero-add, arith}
 use Rattle.std.specs.Prelude.{ℤ, if◌then◌else◌, length, slice_get, Ok, Option, Some, None}
 use Rattle.std.specs.List.{list_any}
 use Rattle.std.specs.Option.{option_and_then}
 use Rattle.std.proofs.lemmas.Bool.{both_ways}
 use Rattle.js_value.specs.declared.place.FuncNo.{FuncNo}
-use Rattle.js_value.specs.Conversions.{to_boolean, to_number, to_text}
+use Rattle.js_value.specs.Conversions.{is_same_text, to_boolean, to_number, to_text}
 use Rattle.js_value.specs.Numbers.{negated}
 use Rattle.js_value.specs.Operators.{unary_row}
 use Rattle.js_value.specs.declared.operator.UnaryOp.TheVariants as unary
@@ -46,63 +46,97 @@ use Rattle.js_machine.specs.Machine.Statements.{statements, stmt_rule}
 use Rattle.js_machine.specs.Machine.Walks.{World, Answer, called, is_of_kind, walk}
 use Rattle.js_machine.proofs.Opening.{at_expr, at_reference, at_stmt, at_call, at_builtin}
 use Rattle.residual_runs.specs.Runs.{State, Runs, Throws}
-use Rattle.residual_runs.specs.Statements.{IsExpr, IsStmt, Puts, AssignsName, AssignsMember, AssignsIndex, Deletes, BodiesRun, evaluate, execute}
+use Rattle.residual_runs.specs.Statements.{IsExpr, IsStmt, IsLengthField, Defines, Puts, AssignsName, AssignsMember, AssignsIndex, Deletes, BodiesRun, evaluate, execute}
 use Rattle.residual_runs.proofs.Runs.{at_once, followed, behind_step, throws_first, throws_then, throws_behind_step, counted}
 
 -- ---- properties
 
-put_is : (site : Site) (o : ObjNo) (key : Key) (v : Value) (h : Heap) (after : ObjectState) → Puts h o key v after
-    → (k : Unit {0} → Heap → Tree) (r : Value → Heap → Tree) → objects.put site o key v false h k r ≡ k tt (set_object o after h)
-unfolding objects.put objects.define
-put_is site o key v h after p k r = rw (p.named, p.put) (rw (p.named, p.there) (rw (p.other, p.defined) refl))
+-- a value that is to be the length of an array stays the number that it is
+length_kept : (at : Place) (d : methods.Descriptor) (v : Option Value) → d.value ≡ v → IsLengthField v → (h : Heap) (k : methods.Descriptor → Heap → Tree) (r : Value → Heap → Tree)
+    → objects.with_length at d v h k r ≡ k d h
+unfolding to_number operators.to_length
+length_kept at d None is field h k r = refl
+length_kept at d (Some (Prim (primitive.Number n))) is field h k r = ap (λ v. k (record d { value = v }) h) (sym is)
+length_kept at d (Some (Prim primitive.Undefined)) is field h k r = absurd field
+length_kept at d (Some (Prim primitive.Null)) is field h k r = absurd field
+length_kept at d (Some (Prim (primitive.Boolean b))) is field h k r = absurd field
+length_kept at d (Some (Prim (primitive.Text t))) is field h k r = absurd field
+length_kept at d (Some (Object o)) is field h k r = absurd field
+length_kept at d (Some Absent) is field h k r = absurd field
+length_kept at d (Some (Symbolic x)) is field h k r = absurd field
 
-removed : (at : Site) (o : ObjNo) (key : Key) (throws : Bool) (state : ObjectState) (h : Heap) → methods.checked_key key ≡ Ok key → option_and_then (methods.delete key) (object_at h o) ≡ Some state
+numbered : (at : Place) (is_length : Bool) (d : methods.Descriptor) → (is_length ≡ false) ⊎ IsLengthField d.value → (h : Heap) (k : methods.Descriptor → Heap → Tree) (r : Value → Heap → Tree)
+    → choose is_length (objects.with_length at d d.value) (λ s k r. k d s) h k r ≡ k d h
+numbered at false d number h k r = refl
+numbered at true d (inl other) h k r = absurd (both_ways true other refl)
+numbered at true d (inr number) h k r = length_kept at d d.value refl number h k r
+
+pub define_is : (site : Site) (o : ObjNo) (key : Key) (d : methods.Descriptor) (throws : Bool) (h : Heap) (after : ObjectState) → Defines h o key d after
+    → (k : Unit {0} → Heap → Tree) (r : Value → Heap → Tree) → objects.define site o key d throws h k r ≡ k tt (set_object o after h)
+unfolding objects.define
+define_is site o key d throws h after p k r =
+    rw p.named (rw p.there
+    (numbered site.at (objects.is_array_state (Some p.before) && is_same_text key methods.length_key) d p.length h (λ d s. objects.define_at site o key d throws (Some p.before) s k r) r
+    ∙ rw p.defined refl))
+
+pub put_is : (site : Site) (o : ObjNo) (key : Key) (v : Value) (h : Heap) (after : ObjectState) → Puts h o key v after
+    → (k : Unit {0} → Heap → Tree) (r : Value → Heap → Tree) → objects.put site o key v false h k r ≡ k tt (set_object o after h)
+unfolding objects.put
+put_is site o key v h after p k r = rw (p.defines.named, p.put) (define_is site o key p.descriptor false h after p.defines k r)
+
+pub present_value : (at : Place) (v : Value) → is_absent v ≡ false → (h : Heap) (k r : Value → Heap → Tree) → objects.present at v h k r ≡ k v h
+present_value at (Prim p) is h k r = refl
+present_value at (Object o) is h k r = refl
+present_value at (Symbolic x) is h k r = refl
+present_value at Absent is h k r = absurd (both_ways true is refl)
+
+pub removed : (at : Site) (o : ObjNo) (key : Key) (throws : Bool) (state : ObjectState) (h : Heap) → methods.checked_key key ≡ Ok key → option_and_then (methods.delete key) (object_at h o) ≡ Some state
     → (k : Bool → Heap → Tree) (r : Value → Heap → Tree) → objects.delete_of at (Object o) key throws h k r ≡ k true (set_object o state h)
 unfolding objects.delete_of objects.delete
 removed at o key throws state h named left k r = rw named (rw left refl)
 
 module _ (set : Setting) (calls : ℕ) (context : Context) (w : World) where
-  abbrev ev : ℕ → Ev
+  abbrev pub ev : ℕ → Ev
   ev d = ev_of set (within set d) calls
 
   -- ---- nodes
 
-  expr_runs : (d : ℕ) {before after : State} {i : ℕ} {v : Value} (e : Expr) (form : ExprForm-F ExprForm Field Expr) → IsExpr e form
+  pub expr_runs : (d : ℕ) {before after : State} {i : ℕ} {v : Value} (e : Expr) (form : ExprForm-F ExprForm Field Expr) → IsExpr e form
       → Runs w (expr_rule (ev d) context e.at form) before i v after → Runs w (evaluate set calls context (suc d) e) before (1 + i) v after
   expr_runs d {before = before} e form is runs =
       behind_step w e.at (λ k r. at_expr set d calls context e before.heap k r ∙ ap (λ form. Step e.at (expr_rule (ev d) context e.at form before.heap k r)) is) runs
 
-  reference_runs : (d : ℕ) {before after : State} {i : ℕ} {v : Reference} (e : Expr) (form : ExprForm-F ExprForm Field Expr) → IsExpr e form
+  pub reference_runs : (d : ℕ) {before after : State} {i : ℕ} {v : Reference} (e : Expr) (form : ExprForm-F ExprForm Field Expr) → IsExpr e form
       → Runs w (reference_rule (ev d) context e.at form) before i v after → Runs w ((within set (suc d) calls).reference context e) before (1 + i) v after
   reference_runs d {before = before} e form is runs =
       behind_step w e.at (λ k r. at_reference set d calls context e before.heap k r ∙ ap (λ form. Step e.at (reference_rule (ev d) context e.at form before.heap k r)) is) runs
 
-  stmt_runs : (d : ℕ) {before after : State} {i : ℕ} {v : Completion} (t : Stmt) (form : StmtForm-F StmtForm Case Catch Finally Stmt) → IsStmt t form
+  pub stmt_runs : (d : ℕ) {before after : State} {i : ℕ} {v : Completion} (t : Stmt) (form : StmtForm-F StmtForm Case Catch Finally Stmt) → IsStmt t form
       → Runs w (stmt_rule (ev d) context t.at form) before i v after → Runs w (execute set calls context (suc d) t) before (1 + i) v after
   stmt_runs d {before = before} t form is runs =
       behind_step w t.at (λ k r. at_stmt set d calls context t before.heap k r ∙ ap (λ form. Step t.at (stmt_rule (ev d) context t.at form before.heap k r)) is) runs
 
-  stmt_throws : (d : ℕ) {before after : State} {i : ℕ} {v : Value} (t : Stmt) (form : StmtForm-F StmtForm Case Catch Finally Stmt) → IsStmt t form
+  pub stmt_throws : (d : ℕ) {before after : State} {i : ℕ} {v : Value} (t : Stmt) (form : StmtForm-F StmtForm Case Catch Finally Stmt) → IsStmt t form
       → Throws w (stmt_rule (ev d) context t.at form) before i v after → Throws w (execute set calls context (suc d) t) before (1 + i) v after
   stmt_throws d {before = before} t form is runs =
       throws_behind_step w t.at (λ k r. at_stmt set d calls context t before.heap k r ∙ ap (λ form. Step t.at (stmt_rule (ev d) context t.at form before.heap k r)) is) runs
 
   -- ---- operands
 
-  this_runs : (d : ℕ) (e : Expr) (s : State) → IsExpr e ExprForm-F.This → Runs w (evaluate set calls context (suc d) e) s 1 context.this s
+  pub this_runs : (d : ℕ) (e : Expr) (s : State) → IsExpr e ExprForm-F.This → Runs w (evaluate set calls context (suc d) e) s 1 context.this s
   unfolding expr_rule
   this_runs d e s is = expr_runs d e ExprForm-F.This is (at_once w (λ k r. refl))
 
-  literal_runs : (d : ℕ) (e : Expr) (p : Primitive) (s : State) → IsExpr e (ExprForm-F.Literal p) → Runs w (evaluate set calls context (suc d) e) s 1 (Prim p) s
+  pub literal_runs : (d : ℕ) (e : Expr) (p : Primitive) (s : State) → IsExpr e (ExprForm-F.Literal p) → Runs w (evaluate set calls context (suc d) e) s 1 (Prim p) s
   unfolding expr_rule
   literal_runs d e p s is = expr_runs d e (ExprForm-F.Literal p) is (at_once w (λ k r. refl))
 
-  temporary_runs : (d : ℕ) (e : Expr) (name : List ℕ) (c : CellNo) (v : Value) (s : State) → IsExpr e (ExprForm-F.Name name) → resolve context.environment name ≡ Some c → cell s.heap c ≡ Some v
+  pub temporary_runs : (d : ℕ) (e : Expr) (name : List ℕ) (c : CellNo) (v : Value) (s : State) → IsExpr e (ExprForm-F.Name name) → resolve context.environment name ≡ Some c → cell s.heap c ≡ Some v
       → Runs w (evaluate set calls context (suc d) e) s 1 v s
   unfolding expr_rule expressions.name_rule references.resolve_name references.get_value
   temporary_runs d e name c v s is bound holds = expr_runs d e (ExprForm-F.Name name) is (at_once w (λ k r. rw (bound, holds) refl))
 
-  function_runs : (d : ℕ) (e : Expr) (f : FuncNo) (s : State) → IsExpr e (ExprForm-F.Func f)
+  pub function_runs : (d : ℕ) (e : Expr) (f : FuncNo) (s : State) → IsExpr e (ExprForm-F.Func f)
       → let made = function_expression set.functions f context.environment context.strict s.heap in
       Runs w (evaluate set calls context (suc d) e) s 1 (Object made.0) (record s { heap = made.1 })
   unfolding expr_rule expressions.function_rule
@@ -129,12 +163,12 @@ module _ (set : Setting) (calls : ℕ) (context : Context) (w : World) where
       sum : (i j : ℕ) → 1 + ((1 + (i + (j + 0))) + 0) ≡ 2 + (i + j)
       sum i j = omega arith
 
-  name_target : (d : ℕ) (e : Expr) (name : List ℕ) (c : CellNo) (s : State) → IsExpr e (ExprForm-F.Name name) → resolve context.environment name ≡ Some c
+  pub name_target : (d : ℕ) (e : Expr) (name : List ℕ) (c : CellNo) (s : State) → IsExpr e (ExprForm-F.Name name) → resolve context.environment name ≡ Some c
       → Runs w ((within set (suc d) calls).reference context e) s 1 (NameReference name (InCell c) context.strict) s
   unfolding reference_rule references.resolve_name
   name_target d e name c s is bound = reference_runs d e (ExprForm-F.Name name) is (at_once w (λ k r. rw bound refl))
 
-  member_target : (d : ℕ) (e base : Expr) (key : Key) (o : ObjNo) (before after : State) (i : ℕ) → IsExpr e (ExprForm-F.Member base key) → Runs w (evaluate set calls context d base) before i (Object o) after
+  pub member_target : (d : ℕ) (e base : Expr) (key : Key) (o : ObjNo) (before after : State) (i : ℕ) → IsExpr e (ExprForm-F.Member base key) → Runs w (evaluate set calls context d base) before i (Object o) after
       → Runs w ((within set (suc d) calls).reference context e) before (1 + i) (PropertyReference (Object o) key context.strict) after
   unfolding reference_rule expressions.member_reference
   member_target d e base key o before after i is runs =
@@ -156,7 +190,7 @@ module _ (set : Setting) (calls : ℕ) (context : Context) (w : World) where
 
   -- ---- statements
 
-  evaluated : (d : ℕ) (t : Stmt) (e : Expr) (before after : State) (i : ℕ) (v : Value) → IsStmt t (StmtForm-F.Eval e) → Runs w (evaluate set calls context d e) before i v after
+  pub evaluated : (d : ℕ) (t : Stmt) (e : Expr) (before after : State) (i : ℕ) (v : Value) → IsStmt t (StmtForm-F.Eval e) → Runs w (evaluate set calls context d e) before i v after
       → Runs w (execute set calls context (suc d) t) before (1 + i) Normal after
   unfolding stmt_rule rules.eval_rule
   evaluated d t e before after i v is runs =
@@ -165,7 +199,7 @@ module _ (set : Setting) (calls : ℕ) (context : Context) (w : World) where
       sum : (i : ℕ) → 1 + (i + 0) ≡ 1 + i
       sum i = omega arith
 
-  temporary_gets : (d : ℕ) (t : Stmt) (name : List ℕ) (value : Expr) (c : CellNo) (before after : State) (i : ℕ) (v : Value) → AssignsName t name value → resolve context.environment name ≡ Some c
+  pub temporary_gets : (d : ℕ) (t : Stmt) (name : List ℕ) (value : Expr) (c : CellNo) (before after : State) (i : ℕ) (v : Value) → AssignsName t name value → resolve context.environment name ≡ Some c
       → Runs w (evaluate set calls context (suc d) value) before i v after
       → Runs w (execute set calls context (suc (suc (suc d))) t) before (3 + i) Normal (record after { heap = set_cell c v after.heap })
   temporary_gets d t name value c before after i v says bound runs =
@@ -194,7 +228,7 @@ module _ (set : Setting) (calls : ℕ) (context : Context) (w : World) where
 
   -- ---- values
 
-  sum_zero : (i : ℕ) → 1 + (i + 0) ≡ 1 + i
+  pub sum_zero : (i : ℕ) → 1 + (i + 0) ≡ 1 + i
   sum_zero i = omega arith
 
   negative_runs : (d : ℕ) (e a : Expr) (n m : ℤ) (s : State) → IsExpr e (ExprForm-F.Unary unary.Minus a) → IsExpr a (ExprForm-F.Literal (primitive.Number n)) → negated n ≡ Ok m
@@ -204,18 +238,12 @@ module _ (set : Setting) (calls : ℕ) (context : Context) (w : World) where
       expr_runs (suc d) e (ExprForm-F.Unary unary.Minus a) is
       (followed w {f = λ v. expressions.unary_value e.at unary.Minus v} (literal_runs d a (primitive.Number n) s literal) (at_once w (λ k r. rw negates refl)))
 
-  present_value : (at : Place) (v : Value) → is_absent v ≡ false → (h : Heap) (k r : Value → Heap → Tree) → objects.present at v h k r ≡ k v h
-  present_value at (Prim p) is h k r = refl
-  present_value at (Object o) is h k r = refl
-  present_value at (Symbolic x) is h k r = refl
-  present_value at Absent is h k r = absurd (both_ways true is refl)
-
-  property_read : (at : Site) (o : ObjNo) (key : Key) (v : Value) (s : State) → methods.checked_key key ≡ Ok key → methods.get s.heap o key ≡ methods.GotValue v → is_absent v ≡ false
+  pub property_read : (at : Site) (o : ObjNo) (key : Key) (v : Value) (s : State) → methods.checked_key key ≡ Ok key → methods.get s.heap o key ≡ methods.GotValue v → is_absent v ≡ false
       → Runs w (references.get_value at (PropertyReference (Object o) key context.strict)) s 0 v s
   unfolding references.get_value objects.get_of objects.get
   property_read at o key v s named got known = at_once w (λ k r. rw (named, got) (present_value at.at v known s.heap k r))
 
-  member_runs : (d : ℕ) (e base : Expr) (key : Key) (o : ObjNo) (v : Value) (before after : State) (i : ℕ) → IsExpr e (ExprForm-F.Member base key) → Runs w (evaluate set calls context d base) before i (Object o) after
+  pub member_runs : (d : ℕ) (e base : Expr) (key : Key) (o : ObjNo) (v : Value) (before after : State) (i : ℕ) → IsExpr e (ExprForm-F.Member base key) → Runs w (evaluate set calls context d base) before i (Object o) after
       → methods.checked_key key ≡ Ok key → methods.get after.heap o key ≡ methods.GotValue v → is_absent v ≡ false → Runs w (evaluate set calls context (suc d) e) before (1 + i) v after
   unfolding expr_rule expressions.member_rule expressions.member_reference
   member_runs d e base key o v before after i is runs named got known =
@@ -269,10 +297,10 @@ module _ (set : Setting) (calls : ℕ) (context : Context) (w : World) where
       asked : Runs w (if list_any operators.is_object values then leave HostArgument e.at else expressions.asked_host e.at kind name values) after 0 (Prim answer.value) (record after { calls = called after.calls name values kind (Prim answer.value) (truth false) })
       asked = record { at = λ n k r. rw plain (rw there (rw right (rw normal (ap (λ n. walk w n (called after.calls name values kind (Prim answer.value) (truth false)) (k (Prim answer.value) after.heap)) (zero-add n))))) }
 
-  no_arguments : (d : ℕ) (s : State) → Runs w (each (evaluate set calls context d) []) s 0 [] s
+  pub no_arguments : (d : ℕ) (s : State) → Runs w (each (evaluate set calls context d) []) s 0 [] s
   no_arguments d s = at_once w (λ k r. refl)
 
-  argument : (d : ℕ) (e : Expr) (es : List Expr) (before mid after : State) (i j : ℕ) (v : Value) (vs : List Value) → Runs w (evaluate set calls context d e) before i v mid → Runs w (each (evaluate set calls context d) es) mid j vs after
+  pub argument : (d : ℕ) (e : Expr) (es : List Expr) (before mid after : State) (i j : ℕ) (v : Value) (vs : List Value) → Runs w (evaluate set calls context d e) before i v mid → Runs w (each (evaluate set calls context d) es) mid j vs after
       → Runs w (each (evaluate set calls context d) (e ∷ es)) before (i + j) (v ∷ vs) after
   argument d e es before mid after i j v vs first second =
       followed w {f = λ v. each (evaluate set calls context d) es >>= (λ vs s k r. k (v ∷ vs) s)} first (record { at = λ n k r. second.at n (λ vs s. k (v ∷ vs) s) r })
@@ -296,7 +324,7 @@ module _ (set : Setting) (calls : ℕ) (context : Context) (w : World) where
   unfolding stmt_rule
   block_runs d t body before after i completion is runs = stmt_runs d t (StmtForm-F.Block body) is runs
 
-  index_target : (d : ℕ) (e base index : Expr) (key : Key) (o : ObjNo) (before after : State) (i : ℕ) → IsExpr e (ExprForm-F.Index base index) → IsExpr index (ExprForm-F.Literal (primitive.Text key))
+  pub index_target : (d : ℕ) (e base index : Expr) (key : Key) (o : ObjNo) (before after : State) (i : ℕ) → IsExpr e (ExprForm-F.Index base index) → IsExpr index (ExprForm-F.Literal (primitive.Text key))
       → Runs w (evaluate set calls context (suc d) base) before i (Object o) after
       → Runs w ((within set (suc (suc d)) calls).reference context e) before (2 + i) (PropertyReference (Object o) key context.strict) after
   unfolding reference_rule expressions.index_reference operators.to_key to_text
@@ -382,7 +410,7 @@ module _ (set : Setting) (calls : ℕ) (context : Context) (w : World) where
 
 -- ---- calls of built-ins
 
-builtin_runs : (set : Setting) (calls : ℕ) (context : Context) (w : World) (d : ℕ) (e callee : Expr) (arguments : List Expr) (values : List Value) (name : List ℕ) (c : CellNo) (o : ObjNo) (n : ℕ) (rule : Rule) (before mid after : State) (i j : ℕ) (v : Value)
+pub builtin_runs : (set : Setting) (calls : ℕ) (context : Context) (w : World) (d : ℕ) (e callee : Expr) (arguments : List Expr) (values : List Value) (name : List ℕ) (c : CellNo) (o : ObjNo) (n : ℕ) (rule : Rule) (before mid after : State) (i j : ℕ) (v : Value)
     → IsExpr e (ExprForm-F.Call callee arguments) → IsExpr callee (ExprForm-F.Name name) → resolve context.environment name ≡ Some c → cell before.heap c ≡ Some (Object o)
     → Runs w (each (evaluate set (suc calls) context (suc d)) arguments) before i values mid → is_function mid.heap o ≡ true → class_of o mid.heap ≡ Builtin n → builtin_rule n ≡ Some rule
     → ((site : Site) → Runs w (rule site undefined values) mid j v after)

@@ -1,5 +1,5 @@
 -- What the statements of a residual's body do, wherever their nodes stand: by what a tree says, and not by its places.
-use Rattle.std.specs.Prelude.{◌≡◌, ℕ, ℤ, suc, ◌+◌, ◌&&◌, true, false, List, [], ◌∷◌, length, slice_get, Ok, Option, Some, None}
+use Rattle.std.specs.Prelude.{◌≡◌, ◌⊎◌, ℕ, ℤ, suc, ◌+◌, ◌&&◌, true, false, List, [], ◌∷◌, length, slice_get, Ok, Option, Some, None}
 use Rattle.std.specs.List.{list_any}
 use Rattle.std.specs.Option.{option_and_then}
 use Rattle.js_value.specs.Conversions.{is_same_text}
@@ -44,15 +44,25 @@ IsExpr e form = out-ExprForm e.form ≡ form
 abbrev pub IsStmt : Stmt → StmtForm-F StmtForm Case Catch Finally Stmt → Type 0
 IsStmt t form = out-StmtForm t.form ≡ form
 
--- [[Put]] of a property makes this of the object: it meets no setter, nothing refuses it, and it isn't the length of an array
-pub record Puts (h : Heap) (o : ObjNo) (key : Key) (v : Value) (after : ObjectState) : Type 0 where
+-- what is to be the length of an array is a number, if it is there
+abbrev pub IsLengthField : Option Value → Type 0
+IsLengthField None = Unit {0}
+IsLengthField (Some (Prim (primitive.Number n))) = Unit {0}
+IsLengthField _ = ⊥
+
+-- [[DefineOwnProperty]] with this descriptor makes this of the object
+pub record Defines (h : Heap) (o : ObjNo) (key : Key) (descriptor : Descriptor) (after : ObjectState) : Type 0 where
   pub named : checked_key key ≡ Ok key
-  pub descriptor : Descriptor
-  pub put : put h o key v ≡ Define descriptor
   pub before : ObjectState
   pub there : object_at h o ≡ Some before
-  pub other : (is_array_state (Some before) && is_same_text key length_key) ≡ false
+  pub length : ((is_array_state (Some before) && is_same_text key length_key) ≡ false) ⊎ IsLengthField descriptor.value
   pub defined : define key descriptor before ≡ Defined after
+
+-- [[Put]] of a property makes this of the object: it meets no setter, and nothing refuses it
+pub record Puts (h : Heap) (o : ObjNo) (key : Key) (v : Value) (after : ObjectState) : Type 0 where
+  pub descriptor : Descriptor
+  pub put : put h o key v ≡ Define descriptor
+  pub defines : Defines h o key descriptor after
 
 -- T = E;
 pub record AssignsName (t : Stmt) (name : List ℕ) (value : Expr) : Type 0 where

@@ -1,0 +1,13 @@
+pub mod Quiet
+pub mod Heaps
+pub mod Objects
+pub mod Closing
+pub mod Making
+pub mod Expressions
+pub mod Statements
+pub mod Functions
+pub mod Builtins
+pub mod Arrays
+pub mod RealmRules
+pub mod Levels
+pub mod Closed

@@ -1,0 +1,14 @@
+pub mod Related
+pub mod Operators
+pub mod Enumerations
+pub mod Objects
+pub mod Codes
+pub mod Creating
+pub mod Expressions
+pub mod Statements
+pub mod Functions
+pub mod Arrays
+pub mod Builtins
+pub mod Realm
+pub mod Levels
+pub mod Itself

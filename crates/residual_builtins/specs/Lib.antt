@@ -1,0 +1,4 @@
+pub mod Calls
+pub mod Values
+pub mod Heaps
+pub mod Examples

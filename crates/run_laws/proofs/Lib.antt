@@ -1,0 +1,5 @@
+pub mod Types
+pub mod Sizes
+pub mod Meant
+pub mod Followed
+pub mod SymbolLaw
