@@ -4,3 +4,4 @@ pub mod Views
 pub mod Entries
 pub mod Chains
 pub mod Changed
+pub mod Defining

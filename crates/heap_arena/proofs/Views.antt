@@ -13,8 +13,9 @@ use Rattle.heap_values.specs.declared.class.Class.{Class}
 use Rattle.heap_values.specs.declared.class.Class.TheVariants as class
 use Rattle.heap_values.specs.declared.property.Property.{Property}
 use Rattle.heap_values.specs.declared.value.Value.{Value}
+use Rattle.own_properties.specs.Defining.{entries}
 use Rattle.heap_arena.specs.declared.object.Object.{Object}
-use Rattle.heap_arena.specs.Meaning.{Store, entries_of, heap_of, object_of, is_scope_there, are_scopes_there}
+use Rattle.heap_arena.specs.Meaning.{Store, heap_of, object_of, is_scope_there, are_scopes_there}
 
 -- ---- what is there
 
@@ -56,7 +57,7 @@ module _ (objects : List Object) (cells : List Value) (environments : List heap.
   with_object o = ap (λ os. record { objects = os; cells = map value_of cells }) (map-append (object_of environments) objects (o ∷ []))
 
   pub with_new_object : (class : Class) (prototype : Option ℕ) (depth : ℕ) (properties : List (List ℕ × Property))
-      → entries_of properties ≡ heap.first_properties (class_of environments class) → depth ≡ heap.depth_at (heap_of store) prototype
+      → entries properties ≡ heap.first_properties (class_of environments class) → depth ≡ heap.depth_at (heap_of store) prototype
       → heap_of (record store { objects = objects ++ record { class = class; prototype = prototype; depth = depth; extensible = true; properties = properties } ∷ [] })
       ≡ heap.new_object (class_of environments class) prototype (heap_of store)
   with_new_object class prototype depth properties entries deep =

@@ -3,3 +3,4 @@ pub mod Meaning
 pub mod Found
 pub mod Parts
 pub mod Changes
+pub mod Defines

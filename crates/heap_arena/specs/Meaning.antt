@@ -2,22 +2,16 @@
 use Rattle.std.specs.Prelude.{ℕ, nat_lt, Bool, true, List, map}
 use Rattle.std.specs.List.{list_all}
 use Rattle.plain_heap.specs.Heap as heap
-use Rattle.heap_values.specs.Meaning.{class_of, property_of, value_of}
+use Rattle.heap_values.specs.Meaning.{class_of, value_of}
+use Rattle.own_properties.specs.Defining.{entries}
 use Rattle.heap_values.specs.declared.class.Class.{Class}
 use Rattle.heap_values.specs.declared.class.Class.TheVariants as class
-use Rattle.heap_values.specs.declared.property.Property.{Property}
 use Rattle.heap_values.specs.declared.value.Value.{Value}
 use Rattle.heap_arena.specs.declared.object.Object.{Object}
 
-abbrev pub entry_of : List ℕ × Property → heap.Key × heap.Property
-entry_of p = (p.0, property_of p.1)
-
-abbrev pub entries_of : List (List ℕ × Property) → heap.Properties
-entries_of ps = map entry_of ps
-
 abbrev pub object_of : List heap.Environment → Object → heap.ObjectState
 object_of environments o =
-    record { class = class_of environments o.class; prototype = o.prototype; depth = o.depth; extensible = o.extensible; properties = entries_of o.properties }
+    record { class = class_of environments o.class; prototype = o.prototype; depth = o.depth; extensible = o.extensible; properties = entries o.properties }
 
 -- objects and cells by their numbers, and the environments that the numbers of scopes stand for
 pub record Store : Type 0 where

@@ -5,7 +5,7 @@ ghost use Rattle.std.specs.Option.{option_copied, option_map};
 ghost use Rattle.plain_heap.specs.Heap as defined;
 ghost use Rattle.plain_heap.specs.Methods as methods;
 ghost use Rattle.heap_values.specs.Meaning.{class_of, property_of};
-ghost use Rattle.heap_arena.specs.Meaning.{entries_of};
+ghost use Rattle.own_properties.specs.Defining.{entries};
 
 use heap_values::{Class, ObjNo, Property, Value};
 use js_value::{NoMemory, Primitive, Text};
@@ -34,7 +34,7 @@ fn length_key(alloc: Global) -> Result<Text, NoMemory>
 
 /// The properties that a new object has: an array its length (15.4.5.2).
 pub fn first_properties(alloc: Global, class: &Class) -> Result<PropertyTable<Property>, NoMemory>
-    ensures { IfOk result (λ ps. (environments : List defined.Environment) → entries_of ps ≡ defined.first_properties (class_of environments class.now)) }
+    ensures { IfOk result (λ ps. (environments : List defined.Environment) → entries ps ≡ defined.first_properties (class_of environments class.now)) }
 {
     let mut properties = PropertyTable::new(alloc);
     if class.is_array() {
@@ -52,7 +52,7 @@ pub fn first_properties(alloc: Global, class: &Class) -> Result<PropertyTable<Pr
 impl Object {
     /// The object's own property of a key (8.12.1).
     pub fn own(&self, key: &Text) -> Option<&Property>
-        ensures { option_map property_of (option_copied result) ≡ defined.lookup key.now (entries_of self.now.properties) }
+        ensures { option_map property_of (option_copied result) ≡ defined.lookup key.now (entries self.now.properties) }
     {
         self.properties.get(key)
     }

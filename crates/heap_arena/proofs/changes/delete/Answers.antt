@@ -1,6 +1,7 @@
 use Rattle.std.proofs.Common.{refl, ap, ◌∙◌}
 use Rattle.plain_heap.specs.Methods.{delete}
-use Rattle.heap_arena.specs.Meaning.{entries_of, object_of}
+use Rattle.own_properties.specs.Defining.{entries}
+use Rattle.heap_arena.specs.Meaning.{object_of}
 use Rattle.heap_arena.proofs.Entries.{without-entries}
 use Rattle.heap_arena.proofs.changes.delete.Goals as goal
 
@@ -28,4 +29,4 @@ pub returns-clause-made : goal.returns-clause-made
 unfolding delete
 returns-clause-made c environments =
     rw (← c.in-Some.ensures, ← c.if-not-is_configurable.ensures)
-    (ap (λ ps. record (object_of environments c.args.object.now) { properties = ps }) (ap entries_of c.remove.ensures.removed ∙ without-entries c.args.key.now c.args.object.now.properties))
+    (ap (λ ps. record (object_of environments c.args.object.now) { properties = ps }) (ap entries c.remove.ensures.removed ∙ without-entries c.args.key.now c.args.object.now.properties))
