@@ -15,7 +15,8 @@ use Rattle.related_states.specs.Related.{Correspondence, Names, SameFound, in_ce
 use Rattle.related_states.proofs.Heaps.{add_object_both, new_cell_both, set_cell_both}
 use Rattle.related_runs.proofs.Related.{Makes, Equal}
 use Rattle.related_runs.proofs.Operators.{Meanings}
-use Rattle.related_runs.proofs.Codes.{AreNamed, Code, SameInner, SameClosure, SameOwn, no_own, own, own_scope, SameFunc, SameHoisted, SameParameter, Bound, no_names, one_name, inside, one_more, all_more, parameters_length}
+use Rattle.related_runs.specs.Codes.{AreNamed, Code, SameInner, SameClosure, SameOwn, no_own, own, own_scope, SameFunc, SameHoisted, SameParameter, inside}
+use Rattle.related_runs.proofs.Codes.{Bound, no_names, one_name, one_more, all_more, parameters_length}
 
 -- ---- changes that go together
 

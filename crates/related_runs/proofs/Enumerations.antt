@@ -25,9 +25,6 @@ module _ (x : Correspondence) where
   unfolding O.is_prototype_of
   prototype_same h g same {q = q} {p = p} {r = r} s t = among_same (depth_at h (Some p)) h g same s (prototype_of_both h g same t) ∙ ap (λ n. O.is_among_next n g q (O.prototype_of g r)) (depth_same x h g same (just t))
 
-  passes : List Key → Key × Property → Bool
-  passes seen p = is_enumerable p.1 && not (S.is_among seen p.0)
-
   one_name : (k : Key) (p q : Property) (ps qs : Properties) (t : Bool) → S.keys_of ps ≡ S.keys_of qs → S.keys_of (cond t ((k, p) ∷ ps) ps) ≡ S.keys_of (cond t ((k, q) ∷ qs) qs)
   one_name k p q ps qs true e = ap (λ ks. k ∷ ks) e
   one_name k p q ps qs false e = e

@@ -41,7 +41,8 @@ use Rattle.related_runs.proofs.Related.{TreeRelation, Together, Equal, bind, bin
 use Rattle.related_runs.proofs.Operators.{Meanings, Seen, plain, objects, symbol, see, test_both, to_key_both, operate_both, operate_one_both}
 use Rattle.related_runs.proofs.Objects.{CallsTogether, site_of, SameReference, same_property, SameContext, base_same, make_plain_both, make_array_both, throw_error_both, checked_both}
 use Rattle.related_runs.proofs.Objects as R
-use Rattle.related_runs.proofs.Codes.{Code, SameForm, both_this, both_name, both_literal, both_array, both_object, both_function, both_member, both_index, both_call, both_new, both_unary, both_binary, both_logic, both_conditional, both_assign, both_step, both_comma, both_input, both_host, SameFieldOf, SameFields, same_value_field, same_getter_field, same_setter_field, SameClosure, SameInner, reference_same, name_same}
+use Rattle.related_runs.specs.Codes.{Code, SameForm, both_this, both_name, both_literal, both_array, both_object, both_function, both_member, both_index, both_call, both_new, both_unary, both_binary, both_logic, both_conditional, both_assign, both_step, both_comma, both_input, both_host, SameFieldOf, SameFields, same_value_field, same_getter_field, same_setter_field, SameClosure, SameInner}
+use Rattle.related_runs.proofs.Codes.{reference_same, name_same}
 use Rattle.related_runs.proofs.Creating.{Alters, function_both, function_expression_both}
 use Rattle.related_runs.proofs.Enumerations.{prototype_same}
 use Rattle.js_machine.specs.Machine.Creating as C

@@ -17,7 +17,8 @@ use Rattle.js_machine.specs.Machine.RealmObjects.{TypeError, global, object_prot
 use Rattle.js_machine.specs.Machine.Events.{Run, in_turn}
 use Rattle.related_states.specs.Related.{Correspondence, BothOption, nothing, just, BothEach, SameValue, known, object, held, same_plain, same_fields, SameProperty, same_data, same_accessor}
 use Rattle.related_states.specs.Related.{Names, SameEnvironment}
-use Rattle.related_runs.proofs.Codes.{Code, SameFunc, SameInner, inside, global_names}
+use Rattle.related_runs.specs.Codes.{Code, SameFunc, SameInner, inside}
+use Rattle.related_runs.proofs.Codes.{global_names}
 use Rattle.related_runs.proofs.Creating.{function_both, enter_function_both}
 use Rattle.js_machine.specs.Machine.Creating as C
 use Rattle.related_runs.proofs.Related.{TreeRelation, Together, Equal, bind, gives, gives_same, left_at, tests, in_turns, in_turns_same}

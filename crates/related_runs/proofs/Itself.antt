@@ -24,8 +24,8 @@ use Rattle.js_tree.specs.declared.statement.StmtForm.{StmtForm, out-StmtForm}
 use Rattle.js_tree.specs.declared.statement.StmtForm.TheOpen.{StmtForm-F}
 use Rattle.js_machine.specs.Machine.Creating as C
 use Rattle.related_states.specs.Related.{Correspondence, Names, are_named, BothOption, nothing, just, BothEach, none, also}
-use Rattle.related_runs.proofs.Codes.{Code, SameForm, both_this, both_name, both_literal, both_array, both_object, both_function, both_member, both_index, both_call, both_new, both_unary, both_binary, both_logic, both_conditional, both_assign, both_step, both_comma, both_input, both_host, SameFieldOf, same_value_field, same_getter_field, same_setter_field, SameInner, SameOwn, no_own, own, own_scope, SameFunc, inside}
-use Rattle.related_runs.proofs.Codes.{SameDeclarator, SameStart, start_nothing, start_expr, start_var, SameTarget, target_expr, target_var, same_clause, SameCases, SameCatch, SameFinally, SameStmtForm, both_var, both_declared, both_eval, both_block, both_empty, both_if, both_do, both_while, both_for, both_for_in, both_continue, both_break, both_return, both_switch, both_throw, both_try}
+use Rattle.related_runs.specs.Codes.{Code, SameForm, both_this, both_name, both_literal, both_array, both_object, both_function, both_member, both_index, both_call, both_new, both_unary, both_binary, both_logic, both_conditional, both_assign, both_step, both_comma, both_input, both_host, SameFieldOf, same_value_field, same_getter_field, same_setter_field, SameInner, SameOwn, no_own, own, own_scope, SameFunc, inside}
+use Rattle.related_runs.specs.Codes.{SameDeclarator, SameStart, start_nothing, start_expr, start_var, SameTarget, target_expr, target_var, same_clause, SameCases, SameCatch, SameFinally, SameStmtForm, both_var, both_declared, both_eval, both_block, both_empty, both_if, both_do, both_while, both_for, both_for_in, both_continue, both_break, both_return, both_switch, both_throw, both_try}
 use Rattle.related_runs.specs.Itself.{Itself, Diagonal, no_more, one_more}
 use Rattle.related_runs.proofs.Functions.{SameGlobal}
 use Rattle.related_runs.proofs.Levels.{SameScript}
@@ -35,27 +35,27 @@ twice : (p b : Bool) → b ≡ true → cond (p || p) (p && p) b ≡ true
 twice true b e = refl
 twice false b e = e
 
-named_self : {ns : Names} → Diagonal ns → (a : List ℕ) → are_named ns a a ≡ true
+pub named_self : {ns : Names} → Diagonal ns → (a : List ℕ) → are_named ns a a ≡ true
 named_self no_more a = nat_list_eq_equiv.refl a
 named_self (one_more n ns) a = twice (is_same_text n a) _ (named_self ns a)
 
-inside_self : (ds : List (List ℕ)) {ns : Names} → Diagonal ns → Diagonal (inside ds ns)
+pub inside_self : (ds : List (List ℕ)) {ns : Names} → Diagonal ns → Diagonal (inside ds ns)
 inside_self [] ns = ns
 inside_self (d ∷ ds) ns = one_more d (inside_self ds ns)
 
-own_self : (o : Option Name) {ns : Names} → Diagonal ns → Diagonal (own_scope o ns)
+pub own_self : (o : Option Name) {ns : Names} → Diagonal ns → Diagonal (own_scope o ns)
 own_self None ns = ns
 own_self (Some n) ns = one_more n.text ns
 
-own_name_self : (o : Option Name) → SameOwn o o
+pub own_name_self : (o : Option Name) → SameOwn o o
 own_name_self None = no_own
 own_name_self (Some n) = own refl
 
-self_each : {A : Type 0} {Q : A → A → Type 0} → ((a : A) → Q a a) → (xs : List A) → BothEach Q xs xs
+pub self_each : {A : Type 0} {Q : A → A → Type 0} → ((a : A) → Q a a) → (xs : List A) → BothEach Q xs xs
 self_each h [] = none
 self_each h (y ∷ ys) = also (h y) (self_each h ys)
 
-self_option : {A : Type 0} {Q : A → A → Type 0} → ((a : A) → Q a a) → (o : Option A) → BothOption Q o o
+pub self_option : {A : Type 0} {Q : A → A → Type 0} → ((a : A) → Q a a) → (o : Option A) → BothOption Q o o
 self_option h None = nothing
 self_option h (Some a) = just (h a)
 

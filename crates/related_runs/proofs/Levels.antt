@@ -26,7 +26,8 @@ use Rattle.related_runs.proofs.Expressions.{SameCompletion, PartsTogether, expr_
 use Rattle.related_runs.proofs.Statements.{statements_both, stmt_rule_both}
 use Rattle.related_runs.proofs.Functions.{call_function_both, construct_function_both, enter_global_both, SameGlobal}
 use Rattle.related_states.specs.Related.{Names}
-use Rattle.related_runs.proofs.Codes.{Code, global_names}
+use Rattle.related_runs.specs.Codes.{Code}
+use Rattle.related_runs.proofs.Codes.{global_names}
 use Rattle.related_runs.proofs.Arrays.{RuleTogether}
 use Rattle.related_runs.proofs.Realm.{IfThere, builtin_rule_both, constructor_rule_both}
 

@@ -12,3 +12,6 @@ pub mod Builtins
 pub mod Realm
 pub mod Levels
 pub mod Itself
+pub mod Layers
+pub mod Moved
+pub mod Later

@@ -30,7 +30,8 @@ use Rattle.related_runs.proofs.Objects.{SameReference, SameContext}
 use Rattle.related_runs.proofs.Objects as R
 use Rattle.js_tree.specs.declared.statement.Func.{Func}
 use Rattle.related_states.specs.Related.{Names, are_named}
-use Rattle.related_runs.proofs.Codes.{Code, SameDeclarator, SameStart, start_nothing, start_expr, start_var, SameTarget, target_expr, target_var, SameClause, same_clause, SameCases, SameCatch, SameFinally, SameStmtForm, both_var, both_declared, both_eval, both_block, both_empty, both_if, both_do, both_while, both_for, both_for_in, both_continue, both_break, both_return, both_switch, both_throw, both_try, one_more}
+use Rattle.related_runs.specs.Codes.{Code, SameDeclarator, SameStart, start_nothing, start_expr, start_var, SameTarget, target_expr, target_var, SameClause, same_clause, SameCases, SameCatch, SameFinally, SameStmtForm, both_var, both_declared, both_eval, both_block, both_empty, both_if, both_do, both_while, both_for, both_for_in, both_continue, both_break, both_return, both_switch, both_throw, both_try}
+use Rattle.related_runs.proofs.Codes.{one_more}
 use Rattle.related_runs.proofs.Expressions.{SameCompletion, same_normal, same_break, same_continue, same_return, PartsTogether, makes_alike, binary_value_both}
 
 pub joined_both : {A B : Type 0} {Q : A → B → Type 0} {xs ys : List A} {us vs : List B} → BothEach Q xs us → BothEach Q ys vs → BothEach Q (xs ++ ys) (us ++ vs)

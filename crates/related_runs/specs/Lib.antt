@@ -1,1 +1,3 @@
 pub mod Itself
+pub mod Codes
+pub mod Starts

@@ -1,6 +1,6 @@
 -- Two starts that correspond: whatever script comes afterwards, in whatever world, the runs can't be told apart.
-use Rattle.std.proofs.Common.{◌≡◌, refl, ap, sym, subst, ◌∙◌, ℕ, zero, suc, Bool, true, false, List, [], ◌∷◌, arith}
-use Rattle.std.specs.Prelude.{if◌then◌else◌, ◌||◌, length, slice_get, Option, Some, None, Result, Ok}
+use Rattle.std.proofs.Common.{◌≡◌, refl, ap, sym, subst, ◌∙◌, ℕ, zero, suc, ◌+◌, Bool, true, false, List, [], ◌∷◌, arith}
+use Rattle.std.specs.Prelude.{if◌then◌else◌, ◌||◌, nat_eq, length, slice_get, Option, Some, None, Result, Ok}
 use Rattle.std.specs.List.{list_any}
 use Rattle.js_value.specs.Conversions.{is_same_value}
 use Rattle.js_value.specs.Operators.{binary_row}
@@ -16,25 +16,22 @@ use Rattle.plain_heap.specs.Heap.{Heap, lookup}
 use Rattle.js_machine.specs.Machine.Levels.{script_tree}
 use Rattle.js_machine.specs.Machine.Operators as P
 use Rattle.js_machine.specs.Machine.Events.{Tree, Call}
-use Rattle.js_machine.specs.Machine.Walks.{World, Answer, Start, HostEvent, Outcome, Left, walk, plain_from, behind, spend, given, answered, called, is_of_kind}
+use Rattle.js_machine.specs.Machine.Walks.{World, Answer, Start, realm_start, HostEvent, Outcome, Left, walk, plain_from, behind, spend, given, answered, called, is_of_kind}
 use Rattle.related_states.specs.Related.{Correspondence, Decided, correspondence, BothEach, none, also, SameValue, known, object, stands, SameHeaps}
 use Rattle.related_runs.proofs.Related.{TreeRelation}
 use Rattle.related_runs.proofs.Operators.{SameOperand, itself, unknown, is_unknown, Meanings}
 use Rattle.related_runs.proofs.Levels.{SameScript, script_trees}
-use Rattle.related_runs.proofs.Itself.{same_script}
-use Rattle.run_laws.specs.LaterLaw.{normally, thrown, SameOutcome, both_ended, both_left, both_spent, IsPlain, SameStarts, LaterRuns}
+use Rattle.related_runs.proofs.Later.{later_script}
+use Rattle.related_runs.proofs.Moved.{mover, moved_script, behind_is}
+use Rattle.run_laws.specs.LaterLaw.{normally, thrown, SameOutcome, both_ended, both_left, both_spent, IsPlain, after, SameStarts, LaterRuns}
 use Rattle.run_laws.proofs.Meant.{differ}
+use Rattle.run_laws.proofs.RealmItself.{realm_itself}
+use Rattle.js_machine.specs.Machine.Realm.{realm}
 
 no_truth : false ≡ true → ⊥
 no_truth e = grind (arith, e)
 
-module _ (d : Decided) (plain : IsPlain d) where
-  abbrev pub x : Correspondence
-  x = correspondence d
-
-  pub no_symbol : (v u : Value) → d.stands v u ≡ true → ⊥
-  no_symbol v u e = no_truth (sym (plain.no_symbols v u) ∙ e)
-
+module _ (x : Correspondence) (no_symbol : (v u : Value) → x.Stands v u → ⊥) (objects : (o : ℕ) → x.MadeObject o) (cells : (c : ℕ) → x.MadeCell c) where
   -- ---- without symbols there is nothing to show of their meanings
 
   two_known : (op : BinaryOp) (row : Primitive → Primitive → Result Primitive Why) (p q r : Primitive) (a b : Operand) → binary_row op ≡ Some row → SameOperand x p a → SameOperand x q b → is_unknown a || is_unknown b ≡ true → row p q ≡ Ok r
@@ -63,8 +60,8 @@ module _ (d : Decided) (plain : IsPlain d) where
     asked = λ p q a b h l some. absurd (asked_known p q a b h l some);
     opposite = λ p s m. absurd (no_symbol _ _ m);
     spelled = λ p s m. absurd (no_symbol _ _ m);
-    made_object = plain.objects;
-    made_cell = plain.cells;
+    made_object = objects;
+    made_cell = cells;
   }
 
   -- ---- the relation: the walks in a world have outcomes that correspond
@@ -131,11 +128,56 @@ module _ (d : Decided) (plain : IsPlain d) where
     pub scripts_walked : (s t : Script) → SameScript x s t → (h g : Heap) → SameHeaps x h g → (n : ℕ) → SameOutcome x (walk w n [] (script_tree n s h)) (walk w n [] (script_tree n t g))
     scripts_walked s t same h g heaps n = (script_trees walked no_meanings s t same n h g heaps).at n []
 
-  later_runs : (a b : Start) → SameStarts d a b → (s : Script) (w : World) (n : ℕ) → SameOutcome x (plain_from a s w n) (plain_from b s w n)
-  unfolding plain_from
-  later_runs a b starts s w n =
-      subst (λ fs. SameOutcome x (walk w n [] (script_tree n (behind a.functions s) a.heap)) (walk w n [] (script_tree n (behind fs s) b.heap))) starts.functions
-      (scripts_walked w (behind a.functions s) (behind a.functions s) (same_script x (behind a.functions s) starts.each starts.itself) a.heap b.heap starts.heaps n)
+-- ---- two starts
+
+later_runs : (d : Decided) → IsPlain d → (a b : Start) → SameStarts d a b → (s : Script) (w : World) (n : ℕ) → SameOutcome (after d a b) (plain_from a s w n) (plain_from b s w n)
+unfolding plain_from
+later_runs d plain a b starts s w n =
+    subst (λ (z : Script). SameOutcome (after d a b) (walk w n [] (script_tree n z a.heap)) (walk w n [] (script_tree n (behind b.functions s) b.heap))) (sym (behind_is a.functions s))
+    (subst (λ (z : Script). SameOutcome (after d a b) (walk w n [] (script_tree n (moved_script (mover a.functions) a.functions s) a.heap)) (walk w n [] (script_tree n z b.heap))) (sym (behind_is b.functions s))
+    (scripts_walked (after d a b) (λ v u e. no_truth (sym (plain.no_symbols v u) ∙ e)) plain.objects plain.cells w _ _ (later_script (correspondence d) a.functions b.functions starts.tables s) a.heap b.heap starts.heaps n))
+
+-- ---- the realm and itself
+
+equal_next : (m n : ℕ) → nat_eq m n ≡ true → nat_eq (m + 1) (n + 1) ≡ true
+equal_next m n e = grind (arith, e)
+
+equal_pairs : (o q p r : ℕ) → nat_eq o q ≡ true → nat_eq p r ≡ true → nat_eq o p ≡ nat_eq q r
+equal_pairs o q p r e f = grind (arith, e, f)
+
+equal_itself : (o : ℕ) → nat_eq o o ≡ true
+equal_itself o = grind arith
+
+equal_is : (o q : ℕ) → nat_eq o q ≡ true → o ≡ q
+equal_is o q e = grind (arith, e)
+
+abbrev equal : Decided
+equal = record {
+  objects = nat_eq;
+  cells = nat_eq;
+  functions = λ ns f g. false;
+  stands = λ v u. false;
+  object_counts = nat_eq;
+  cell_counts = nat_eq;
+  made_object = λ o. true;
+  made_cell = λ c. true;
+  new_object = λ m n e made. e;
+  new_cell = λ m n e made. e;
+  next_object = λ m n e made. equal_next m n e;
+  next_cell = λ m n e made. equal_next m n e;
+  one_object = equal_pairs;
+  one_cell = equal_pairs;
+  realm = λ o h. equal_itself o;
+}
+
+realm_starts : SameStarts equal realm_start realm_start
+realm_starts = record {
+  heaps = realm_itself (after equal realm_start realm_start) equal_itself equal_is (equal_itself (length realm.objects)) (equal_itself 0);
+  tables = record { called = λ ns f g h. absurd (no_truth h) };
+}
 
 pub later : LaterRuns
-later = record { same = λ d plain a b starts s w n. later_runs d plain a b starts s w n }
+later = record {
+  realm = (equal, record { no_symbols = λ v u. refl; objects = λ o. refl; cells = λ c. refl }, realm_starts);
+  same = later_runs;
+}

@@ -1,14 +1,13 @@
 -- Whatever script comes after two starts that correspond.
 use Rattle.std.specs.Prelude.{◌≡◌, ℕ, true, false, List}
-use Rattle.js_value.specs.declared.place.FuncNo.{FuncNo}
 use Rattle.js_value.specs.declared.place.Place.{Place}
 use Rattle.js_value.specs.declared.why.Why.{Why}
 use Rattle.js_tree.specs.declared.statement.Script.{Script}
 use Rattle.plain_heap.specs.Heap.{Heap}
 use Rattle.plain_heap.specs.Values.{Value}
-use Rattle.js_machine.specs.Machine.Walks.{World, Start, HostEvent, Ending, Normally, Thrown, Outcome, Ended, Left, OutOfSteps, plain_from}
-use Rattle.related_states.specs.Related.{Correspondence, Decided, correspondence, Names, SameValue, SameHeaps}
-use Rattle.related_runs.specs.Itself.{Itself, Diagonal}
+use Rattle.js_machine.specs.Machine.Walks.{World, Start, realm_start, HostEvent, Ending, Normally, Thrown, Outcome, Ended, Left, OutOfSteps, plain_from}
+use Rattle.related_states.specs.Related.{Correspondence, Decided, correspondence, SameValue, SameHeaps}
+use Rattle.related_runs.specs.Starts.{SameTables, with_later}
 
 -- ---- outcomes that correspond
 
@@ -31,13 +30,16 @@ pub record IsPlain (d : Decided) : Type 0 where
   pub objects : (o : ℕ) → d.made_object o ≡ true
   pub cells : (c : ℕ) → d.made_cell c ≡ true
 
--- the same functions, which bind the same names
-pub record SameStarts (d : Decided) (a b : Start) : Type 0 where
-  pub heaps : SameHeaps (correspondence d) a.heap b.heap
-  pub functions : a.functions ≡ b.functions
-  pub itself : (ns : Names) (f g : FuncNo) → d.functions ns f g ≡ true → Itself ns f g
-  pub each : (ns : Names) → Diagonal ns → (f : FuncNo) → d.functions ns f f ≡ true
+-- what corresponds in the runs of a script that comes behind both
+abbrev pub after : Decided → Start → Start → Correspondence
+after d a b = with_later (correspondence d) a.functions b.functions
 
--- of every later script, in every world and with every budget
+-- functions that correspond have codes that are the same but for captured names, numbers of functions and places
+pub record SameStarts (d : Decided) (a b : Start) : Type 0 where
+  pub heaps : SameHeaps (after d a b) a.heap b.heap
+  pub tables : SameTables (correspondence d) a.functions b.functions
+
+-- Of every later script, in every world and with every budget. There are starts that correspond: that of an empty history does to itself.
 pub record LaterRuns : Type 0 where
-  pub same : (d : Decided) → IsPlain d → (a b : Start) → SameStarts d a b → (s : Script) (w : World) (n : ℕ) → SameOutcome (correspondence d) (plain_from a s w n) (plain_from b s w n)
+  pub realm : (d : Decided) × IsPlain d × SameStarts d realm_start realm_start
+  pub same : (d : Decided) → IsPlain d → (a b : Start) → SameStarts d a b → (s : Script) (w : World) (n : ℕ) → SameOutcome (after d a b) (plain_from a s w n) (plain_from b s w n)

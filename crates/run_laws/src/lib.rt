@@ -13,8 +13,9 @@ pub fn symbol_law()
     ensures { SymbolsValued }
 {}
 
-/// Later scripts, after two starts with heaps that correspond and the same functions: whatever the script, the world and the budget
-/// are, both runs end, with the same host calls and heaps that correspond, both leave with one cause, or both are out of steps.
+/// Later scripts, after two starts with heaps that correspond and functions whose codes are the same but for captured names, numbers
+/// of functions and places: whatever the script, the world and the budget are, both runs end, with the same host calls and heaps that
+/// correspond, both leave with one cause, or both are out of steps.
 #[tactic(auto, using(crate::proofs::LaterLaw::later))]
 pub fn later_law()
     ensures { LaterRuns }
